@@ -1,0 +1,1 @@
+// Nothing runs here: `specs/` holds the definitions and theorems that the other crates cite.

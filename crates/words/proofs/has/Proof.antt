@@ -1,0 +1,19 @@
+-- `words::has` meets its contract. Assumes nothing.
+use mathlib.Core.Path.{ap}
+use Prim.Native.Nat.{ℕ, _/_, _^_}
+use borrow.Author.Needs.{needs}
+use lib.Bits.{and-mask}
+use lib.Dec.{eqb}
+use Rattle.words.specs.Words.{bit}
+use Rattle.words.proofs.has.Statement.{statement}
+use Rattle.words.proofs.has.Tie as tie
+
+shr-result : tie.Need-shr-result
+shr-result c = search needs
+
+returns : tie.Need-returns
+unfolding bit
+returns c = ap (λ (x : ℕ). eqb x 1) (and-mask (c .args .w / 2 ^ c .args .i) 1)
+
+pub has-spec : {M : Type 1} → statement M
+has-spec = tie.close (tie.spec shr-result returns)
