@@ -49,14 +49,14 @@ unfolding holds reach
 always-holds g x o = simp facts (x, o, refl)
 
 -- always true describes a node among those that it is related to
-always-describes : {s : Sides} {l r : Graph} {c d : ℕ} {z : Relation} {x : ℕ} {among : ℕ → Type 0}
+pub always-describes : {s : Sides} {l r : Graph} {c d : ℕ} {z : Relation} {x : ℕ} {among : ℕ → Type 0}
     → x < l .size → ((y : ℕ) → among y → z x y ≡ true) → Describes s l r c d z x among always
 unfolding Within Positive depth
 always-describes {l = l} {x = x} o f =
     record { within = tt; spoken = λ _. tt; shallow = omega arith; own = always-holds l x o; only = λ y u _. f y u }
 
 -- a conjunction describes among all nodes that one of its parts covers
-conj-describes : {s : Sides} {l r : Graph} {c d : ℕ} {z : Relation} {x : ℕ} {A B C : ℕ → Type 0} {q p : NodeExpr}
+pub conj-describes : {s : Sides} {l r : Graph} {c d : ℕ} {z : Relation} {x : ℕ} {A B C : ℕ → Type 0} {q p : NodeExpr}
     → ((y : ℕ) → C y → A y ⊎ B y) → Describes s l r c d z x A q → Describes s l r c d z x B p → Describes s l r c d z x C (conj q p)
 unfolding holds Within Positive depth
 conj-describes cover t u = record {

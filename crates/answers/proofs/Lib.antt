@@ -1,0 +1,3 @@
+pub mod RowExits
+pub mod PairExits
+pub mod Told

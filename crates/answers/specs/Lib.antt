@@ -1,0 +1,5 @@
+pub mod Row
+pub mod RowLaws
+pub mod Pair
+pub mod PairLaws
+pub mod Examples

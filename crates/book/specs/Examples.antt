@@ -1,0 +1,75 @@
+-- Worked examples (01, "Examples"), computed: A's two books, their graphs and links, and each refusal once.
+use mathlib.Core.Path.{_≡_, refl}
+use mathlib.Core.List.{List, [], _∷_, _++_, map}
+use Prim.Native.Nat.{ℕ}
+use lib.ListN.{take, set}
+use Rattle.fields.specs.Fields.{field}
+use Rattle.outcome.specs.Outcome.{Outcome, accepted, refused, ofCall, ofLeftBook}
+use Rattle.theory.specs.Search.{list}
+use Rattle.theory.specs.Graph.{link}
+use Rattle.book.specs.Book.{recordingAt, labelWidth, linkIn, linkAt, orElse, countsRefusal, headRefusal, below, precedes, rises, linkRefusal, linksRefusal, bookRefusal, bookAnswer, bookOutcome}
+use Rattle.book.specs.BookGraph.{graphOf}
+use Rattle.book.specs.BookLinks.{linksBefore, firstLink, partFrom, linksAnswer, partOf, linksPart, linksOutcome}
+
+-- A, left: 3 cells, recordings 5, 5, 6, links (0, 1, 1), (0, 1, 2).
+unfoldable pub leftBook : List ℕ
+leftBook =
+    0 ∷ 0 ∷ 0 ∷ 26 ∷ 1 ∷ 3 ∷ 0 ∷ 2
+    ∷ 0 ∷ 0 ∷ 0 ∷ 5 ∷ 0 ∷ 0 ∷ 0 ∷ 5 ∷ 0 ∷ 0 ∷ 0 ∷ 6
+    ∷ 0 ∷ 1 ∷ 1 ∷ 0 ∷ 1 ∷ 2 ∷ []
+
+-- A, right: 2 cells, recordings 5, 5, link (0, 1, 1).
+unfoldable pub rightBook : List ℕ
+rightBook =
+    0 ∷ 0 ∷ 0 ∷ 19 ∷ 1 ∷ 2 ∷ 0 ∷ 1
+    ∷ 0 ∷ 0 ∷ 0 ∷ 5 ∷ 0 ∷ 0 ∷ 0 ∷ 5
+    ∷ 0 ∷ 1 ∷ 1 ∷ []
+
+-- What an operation answers, and what it should.
+pub record Row : Type 0 where
+  pub answer : Outcome
+  pub wanted : Outcome
+
+-- Check a book.
+abbrev checked : List ℕ → Outcome → Row
+checked s o = record { answer = bookOutcome (bookAnswer s); wanted = o }
+
+-- Links of a cell.
+abbrev linked : List ℕ → ℕ → Outcome → Row
+linked s x o = record { answer = linksOutcome (linksAnswer s x); wanted = o }
+
+-- A's books; damaged ones, one for each refusal; the links of A's left book.
+unfoldable pub rows : List Row
+rows =
+    checked leftBook (accepted 3 2)
+    ∷ checked rightBook (accepted 2 1)
+    ∷ checked (take 7 leftBook) (refused ofLeftBook 1)
+    ∷ checked (leftBook ++ 0 ∷ []) (refused ofLeftBook 2)
+    ∷ checked (set leftBook 4 2) (refused ofLeftBook 3)
+    ∷ checked (set leftBook 5 65) (refused ofLeftBook 4)
+    ∷ checked (set leftBook 5 4) (refused ofLeftBook 5)
+    ∷ checked (set leftBook 22 3) (refused ofLeftBook 6)
+    ∷ checked (set leftBook 25 1) (refused ofLeftBook 7)
+    ∷ linked leftBook 0 (accepted 2 20)
+    ∷ linked leftBook 1 (accepted 0 0)
+    ∷ linked leftBook 3 (refused ofCall 26)
+    ∷ []
+
+-- Every answer is the one wanted.
+pub rows-hold : map (λ (r : Row). r .answer) rows ≡ map (λ (r : Row). r .wanted) rows
+unfolding rows leftBook rightBook bookAnswer bookRefusal headRefusal countsRefusal linksRefusal linkRefusal rises precedes below orElse linkAt linkIn labelWidth field linksAnswer partFrom firstLink linksBefore list
+rows-hold = refl
+
+-- The graph of A's left book, and of its right.
+pub leftBook-graph : (graphOf leftBook .size ≡ 3) × (graphOf leftBook .links ≡ link 0 1 1 ∷ link 0 1 2 ∷ []) × (list 3 (recordingAt leftBook) ≡ 5 ∷ 5 ∷ 6 ∷ [])
+unfolding leftBook linkAt linkIn labelWidth recordingAt field list
+leftBook-graph = (refl, refl, refl)
+
+pub rightBook-graph : (graphOf rightBook .size ≡ 2) × (graphOf rightBook .links ≡ link 0 1 1 ∷ []) × (list 2 (recordingAt rightBook) ≡ 5 ∷ 5 ∷ [])
+unfolding rightBook linkAt linkIn labelWidth recordingAt field list
+rightBook-graph = (refl, refl, refl)
+
+-- The part that holds the links of A's left cell 0.
+pub leftBook-part : linksPart leftBook 0 ≡ 0 ∷ 1 ∷ 1 ∷ 0 ∷ 1 ∷ 2 ∷ []
+unfolding leftBook partOf linksAnswer partFrom firstLink linksBefore bookRefusal headRefusal countsRefusal linksRefusal linkRefusal rises precedes below orElse linkAt linkIn labelWidth field list
+leftBook-part = refl

@@ -1,0 +1,414 @@
+// Books (01, "Book bytes"): checked once, then read by parts.
+ghost use mathlib.Core.Path.{_≡_};
+ghost use Prim.Native.Nat.{_+_, _-_, _*_, _≤_, _<_};
+ghost use lib.Dec.{ltb};
+ghost use lib.ListN.{length};
+ghost use Rattle.fields.specs.Fields.{field};
+ghost use Rattle.theory.specs.Graph.{compared, same, differ};
+ghost use Rattle.outcome.specs.Outcome.{code};
+ghost use Rattle.book.specs.Book.{cellsOf, linksOf, recordingAt, labelWidth, linkPlace, linkAt, countsRefusal, headRefusal, precedes, linkRefusal, linksRefusal, bookRefusal, bookAnswer, bookOutcome, asLink};
+ghost use Rattle.book.specs.BookGraph.{voice};
+ghost use Rattle.book.specs.BookLinks.{firstLink, RangeOut, partFrom, linksAnswer, linksPart, linksOutcome};
+
+// A cell of the left book.
+pub struct LeftCell(pub u8);
+
+// A cell of the right book.
+pub struct RightCell(pub u8);
+
+// A recording's number. Recordings are compared by `same` and `differ` only.
+pub struct Recording(pub u32);
+
+// A link: from a cell, by a label, to a cell.
+pub struct BookLink {
+    pub from: u8,
+    pub label: u8,
+    pub to: u8,
+}
+
+// Links by number: from `first` on, before `end`.
+pub struct LinkRange {
+    pub first: usize,
+    pub end: usize,
+}
+
+// What the check of a book answers: its counts, or 01's refusal.
+pub enum BookAnswer {
+    Accepted { cells: u8, links: u16 },
+    Refused(u8),
+}
+
+// What Links answers beside the part: how many links it holds and the byte where it starts (0 where it is empty);
+// the book's refusal; or that the book has no such cell (26).
+pub enum LinksAnswer {
+    Part { count: u16, start: u16 },
+    BookRefused(u8),
+    NoCell,
+}
+
+// The number of cells.
+pub fn cells_of(bytes: &[u8]) -> usize
+    requires { ⌜ 8 ≤ length (now bytes) ⌝ }
+    ensures { λ r. ⌜ (r ≡ cellsOf (now (bytes .entry))) × (r < 256) ⌝ }
+{
+    fields::get1(bytes, 5) as usize
+}
+
+// The number of links.
+pub fn links_of(bytes: &[u8]) -> usize
+    requires { ⌜ 8 ≤ length (now bytes) ⌝ }
+    ensures { λ r. ⌜ (r ≡ linksOf (now (bytes .entry))) × (r < 65536) ⌝ }
+{
+    fields::get2(bytes, 6) as usize
+}
+
+// Whether an accepted book has the cell.
+pub fn has_cell(bytes: &[u8], cell: usize) -> bool
+    requires { ⌜ bookRefusal (now bytes) ≡ 0 ⌝ }
+    ensures { λ r. ⌜ r ≡ ltb cell (cellsOf (now (bytes .entry))) ⌝ }
+{
+    cell < cells_of(bytes)
+}
+
+// How many bytes a label takes.
+fn label_width(bytes: &[u8]) -> usize
+    ensures { λ r. ⌜ (r ≡ labelWidth (now (bytes .entry))) × (r ≤ 2) ⌝ }
+{
+    1
+}
+
+// The label at `at`.
+fn label_at(bytes: &[u8], at: usize) -> u8
+    requires { ⌜ at + labelWidth (now bytes) ≤ length (now bytes) ⌝ }
+    ensures { λ r. ⌜ r ≡ field (labelWidth (now (bytes .entry))) (now (bytes .entry)) at ⌝ }
+{
+    fields::get1(bytes, at)
+}
+
+// The byte where link k starts.
+fn link_place(bytes: &[u8], k: usize) -> usize
+    requires { ⌜ (8 ≤ length (now bytes)) × (k ≤ 512) ⌝ }
+    ensures { λ r. ⌜ (r ≡ linkPlace (now (bytes .entry)) k) × (r ≤ 4096) ⌝ }
+{
+    let width = 2 + label_width(bytes);
+    8 + 4 * cells_of(bytes) + width * k
+}
+
+// The refusal of the header's counts, 0 where there is none.
+fn counts_refusal(bytes: &[u8]) -> u8
+    requires { ⌜ 8 ≤ length (now bytes) ⌝ }
+    ensures { λ r. ⌜ r ≡ countsRefusal (now (bytes .entry)) ⌝ }
+{
+    let n = cells_of(bytes);
+    if n < 1 {
+        return 4;
+    }
+    if 64 < n {
+        return 4;
+    }
+    let e = links_of(bytes);
+    if 512 < e {
+        return 4;
+    }
+    let l = fields::get4(bytes, 0) as usize;
+    if l != link_place(bytes, e) {
+        return 5;
+    }
+    0
+}
+
+// The header's refusal, 0 where there is none.
+fn head_refusal(bytes: &[u8]) -> u8
+    ensures { λ r. ⌜ r ≡ headRefusal (now (bytes .entry)) ⌝ }
+{
+    if bytes.len() < 8 {
+        return 1;
+    }
+    let l = fields::get4(bytes, 0) as usize;
+    if l != bytes.len() {
+        return 2;
+    }
+    let version = fields::get1(bytes, 4);
+    if version != 1 {
+        return 3;
+    }
+    counts_refusal(bytes)
+}
+
+// Link k of a book whose header is not refused.
+fn read_link(bytes: &[u8], k: usize) -> BookLink
+    requires { ⌜ (headRefusal (now bytes) ≡ 0) × (k < linksOf (now bytes)) ⌝ }
+    ensures { λ r. ⌜ asLink r ≡ linkAt (now (bytes .entry)) k ⌝ }
+{
+    let at = link_place(bytes, k);
+    let from = fields::get1(bytes, at);
+    let label = label_at(bytes, at + 1);
+    let width = label_width(bytes);
+    let to = fields::get1(bytes, at + 1 + width);
+    BookLink { from, label, to }
+}
+
+// Whether link j comes before link k as a triple.
+fn precedes(j: BookLink, k: BookLink) -> bool
+    ensures { λ r. ⌜ r ≡ precedes (asLink j) (asLink k) ⌝ }
+{
+    if j.from != k.from {
+        return j.from < k.from;
+    }
+    if j.label != k.label {
+        return j.label < k.label;
+    }
+    j.to < k.to
+}
+
+// The refusal of link k, 0 where there is none.
+fn link_refusal(bytes: &[u8], k: usize) -> u8
+    requires { ⌜ (headRefusal (now bytes) ≡ 0) × (k < linksOf (now bytes)) ⌝ }
+    ensures { λ r. ⌜ r ≡ linkRefusal (now (bytes .entry)) k ⌝ }
+{
+    let n = cells_of(bytes);
+    let link = read_link(bytes, k);
+    if n <= link.from as usize {
+        return 6;
+    }
+    if n <= link.to as usize {
+        return 6;
+    }
+    if k == 0 {
+        return 0;
+    }
+    let before = read_link(bytes, k - 1);
+    if precedes(before, link) {
+        return 0;
+    }
+    7
+}
+
+// The refusal of the links, 0 where there is none.
+fn links_refusal(bytes: &[u8]) -> u8
+    requires { ⌜ headRefusal (now bytes) ≡ 0 ⌝ }
+    ensures { λ r. ⌜ r ≡ linksRefusal (now (bytes .entry)) 0 (linksOf (now (bytes .entry))) ⌝ }
+{
+    let e = links_of(bytes);
+    let mut k = 0;
+    while k < e {
+        let r = link_refusal(bytes, k);
+        if r != 0 {
+            return r;
+        }
+        k += 1;
+    }
+    0
+}
+
+// The refusal of a book, 0 where it is accepted.
+pub fn refusal_of(bytes: &[u8]) -> u8
+    ensures { λ r. ⌜ r ≡ bookRefusal (now (bytes .entry)) ⌝ }
+{
+    let r = head_refusal(bytes);
+    if r != 0 {
+        return r;
+    }
+    links_refusal(bytes)
+}
+
+// Check a book: its cells and links, or the first refusal of 1 to 7 that applies.
+pub fn check(bytes: &[u8]) -> BookAnswer
+    ensures { λ r. ⌜ r ≡ bookAnswer (now (bytes .entry)) ⌝ }
+{
+    let r = refusal_of(bytes);
+    if r != 0 {
+        return BookAnswer::Refused(r);
+    }
+    let cells = fields::get1(bytes, 5);
+    let links = fields::get2(bytes, 6);
+    BookAnswer::Accepted { cells, links }
+}
+
+// The check's answer as one number: n and e, or the refusal of the only book.
+pub fn check_code(bytes: &[u8]) -> u64
+    ensures { λ r. ⌜ r ≡ code (bookOutcome (bookAnswer (now (bytes .entry)))) ⌝ }
+{
+    let answer = check(bytes);
+    match answer {
+        BookAnswer::Accepted { cells, links } => outcome::code(
+            0,
+            outcome::OF_CALL,
+            cells as u32,
+            links as u32,
+        ),
+        BookAnswer::Refused(refusal) => outcome::code(refusal, outcome::OF_LEFT_BOOK, 0, 0),
+    }
+}
+
+// The recording of a cell.
+pub fn recording_of(bytes: &[u8], cell: usize) -> Recording
+    requires { ⌜ (bookRefusal (now bytes) ≡ 0) × (cell < cellsOf (now bytes)) ⌝ }
+    ensures { λ r. ⌜ r .0 ≡ recordingAt (now (bytes .entry)) cell ⌝ }
+{
+    Recording(fields::get4(bytes, 8 + 4 * cell))
+}
+
+// Whether two recordings are same.
+pub fn same(a: Recording, b: Recording) -> bool
+    ensures { λ r. ⌜ r ≡ compared voice same (a .0) (b .0) ⌝ }
+{
+    a.0 == b.0
+}
+
+// Whether two recordings differ.
+pub fn differ(a: Recording, b: Recording) -> bool
+    ensures { λ r. ⌜ r ≡ compared voice differ (a .0) (b .0) ⌝ }
+{
+    a.0 != b.0
+}
+
+// Link k.
+pub fn link_of(bytes: &[u8], k: usize) -> BookLink
+    requires { ⌜ (bookRefusal (now bytes) ≡ 0) × (k < linksOf (now bytes)) ⌝ }
+    ensures { λ r. ⌜ asLink r ≡ linkAt (now (bytes .entry)) k ⌝ }
+{
+    read_link(bytes, k)
+}
+
+// The number of the first link out of a cell, or of a later one.
+pub fn first_link(bytes: &[u8], cell: usize) -> usize
+    requires { ⌜ bookRefusal (now bytes) ≡ 0 ⌝ }
+    ensures { λ r. ⌜ (r ≡ firstLink (now (bytes .entry)) cell) × (r ≤ linksOf (now (bytes .entry))) ⌝ }
+{
+    let e = links_of(bytes);
+    let mut k = 0;
+    while k < e {
+        let link = link_of(bytes, k);
+        if cell <= link.from as usize {
+            return k;
+        }
+        k += 1;
+    }
+    k
+}
+
+// The links out of a cell, by number.
+pub fn links_range(bytes: &[u8], cell: usize) -> LinkRange
+    requires { ⌜ (bookRefusal (now bytes) ≡ 0) × (cell < cellsOf (now bytes)) ⌝ }
+    ensures { λ r. ⌜ RangeOut (now (bytes .entry)) cell (r .first) (r .end) ⌝ }
+{
+    let first = first_link(bytes, cell);
+    let end = first_link(bytes, cell + 1);
+    LinkRange { first, end }
+}
+
+// The part of the book that holds the links of a range.
+fn part_from(bytes: &[u8], first: usize, end: usize) -> LinksAnswer
+    requires { ⌜ (8 ≤ length (now bytes)) × (first ≤ end) × (end ≤ 512) ⌝ }
+    ensures { λ r. ⌜ r ≡ partFrom (now (bytes .entry)) first (end - first) ⌝ }
+{
+    let count = end - first;
+    if count == 0 {
+        return LinksAnswer::Part { count: 0, start: 0 };
+    }
+    let start = link_place(bytes, first);
+    LinksAnswer::Part {
+        count: count as u16,
+        start: start as u16,
+    }
+}
+
+// The companion of Links: how many links lead out of the cell and where their part starts; the book's refusal, or 26 where it has no
+// such cell. Any number may be handed in.
+pub fn links_answer(bytes: &[u8], cell: usize) -> LinksAnswer
+    ensures { λ r. ⌜ r ≡ linksAnswer (now (bytes .entry)) cell ⌝ }
+{
+    let r = refusal_of(bytes);
+    if r != 0 {
+        return LinksAnswer::BookRefused(r);
+    }
+    if cells_of(bytes) <= cell {
+        return LinksAnswer::NoCell;
+    }
+    let range = links_range(bytes, cell);
+    part_from(bytes, range.first, range.end)
+}
+
+// Links: the part of the lent book that holds the links out of the cell. It is empty where there are none, and on a refusal.
+pub fn links(bytes: &[u8], cell: usize) -> &[u8]
+    ensures { λ r. ⌜ now r ≡ linksPart (now (bytes .entry)) cell ⌝ }
+{
+    let answer = links_answer(bytes, cell);
+    match answer {
+        LinksAnswer::Part { count, start } => {
+            let width = 2 + label_width(bytes);
+            let from = start as usize;
+            let end = from + width * (count as usize);
+            &bytes[from..end]
+        }
+        LinksAnswer::BookRefused(_) => &bytes[..0],
+        LinksAnswer::NoCell => &bytes[..0],
+    }
+}
+
+// The companion's answer as one number: the count and the start, the refusal of the only book, or 26 of the call.
+pub fn links_code(bytes: &[u8], cell: usize) -> u64
+    ensures { λ r. ⌜ r ≡ code (linksOutcome (linksAnswer (now (bytes .entry)) cell)) ⌝ }
+{
+    let answer = links_answer(bytes, cell);
+    match answer {
+        LinksAnswer::Part { count, start } => outcome::code(
+            0,
+            outcome::OF_CALL,
+            count as u32,
+            start as u32,
+        ),
+        LinksAnswer::BookRefused(refusal) => outcome::code(refusal, outcome::OF_LEFT_BOOK, 0, 0),
+        LinksAnswer::NoCell => outcome::code(26, outcome::OF_CALL, 0, 0),
+    }
+}
+
+// Where both books are at hand, their cells are `LeftCell` and `RightCell`, and the functions below take them: each side's cells go with its
+// own book. They say what the functions above say.
+
+// Whether the left book has the cell.
+pub fn has_left(left: &[u8], cell: LeftCell) -> bool
+    requires { ⌜ bookRefusal (now left) ≡ 0 ⌝ }
+    ensures { λ r. ⌜ r ≡ ltb (cell .0) (cellsOf (now (left .entry))) ⌝ }
+{
+    has_cell(left, cell.0 as usize)
+}
+
+// Whether the right book has the cell.
+pub fn has_right(right: &[u8], cell: RightCell) -> bool
+    requires { ⌜ bookRefusal (now right) ≡ 0 ⌝ }
+    ensures { λ r. ⌜ r ≡ ltb (cell .0) (cellsOf (now (right .entry))) ⌝ }
+{
+    has_cell(right, cell.0 as usize)
+}
+
+// The recording of a cell of the left book.
+pub fn left_recording(left: &[u8], cell: LeftCell) -> Recording
+    requires { ⌜ (bookRefusal (now left) ≡ 0) × (cell .0 < cellsOf (now left)) ⌝ }
+    ensures { λ r. ⌜ r .0 ≡ recordingAt (now (left .entry)) (cell .0) ⌝ }
+{
+    recording_of(left, cell.0 as usize)
+}
+
+// The recording of a cell of the right book.
+pub fn right_recording(right: &[u8], cell: RightCell) -> Recording
+    requires { ⌜ (bookRefusal (now right) ≡ 0) × (cell .0 < cellsOf (now right)) ⌝ }
+    ensures { λ r. ⌜ r .0 ≡ recordingAt (now (right .entry)) (cell .0) ⌝ }
+{
+    recording_of(right, cell.0 as usize)
+}
+
+// Links, of a cell of the left book.
+pub fn left_links(left: &[u8], cell: LeftCell) -> &[u8]
+    ensures { λ r. ⌜ now r ≡ linksPart (now (left .entry)) (cell .0) ⌝ }
+{
+    links(left, cell.0 as usize)
+}
+
+// Links, of a cell of the right book.
+pub fn right_links(right: &[u8], cell: RightCell) -> &[u8]
+    ensures { λ r. ⌜ now r ≡ linksPart (now (right .entry)) (cell .0) ⌝ }
+{
+    links(right, cell.0 as usize)
+}

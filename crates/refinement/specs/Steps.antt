@@ -1,0 +1,185 @@
+-- The steps keep the invariant: a pair that stays, and a pair that is parted.
+use mathlib.Core.Bool.{So}
+use mathlib.Core.List.{List}
+use mathlib.Core.Logic.{_⊎_, inl, inr, ⊎-elim, _≢_}
+use mathlib.Core.Path.{_≡_, sym, _∙_}
+use Prim.Native.Nat.{ℕ, suc, _+_, _*_, _<_, _≤_}
+use native.Mathlib.Omega.{arith}
+use native.Mathlib.Nat.{eq-or-lt-of-le, le-of-suc-le-suc, le-refl}
+use lib.ListN.{length, getD, set, length-set}
+use lib.Seq.{getD-set-same, getD-set-other}
+use borrow.Author.Tests.{eqb-true, eq-eqb, ne-eqb, le-leb}
+use Rattle.theory.specs.Expression.{NodeExpr}
+use Rattle.theory.specs.Graph.{Graph, WellFormed}
+use Rattle.theory.specs.Bisimulation.{Relation, Sides}
+use Rattle.theory.specs.Rounds.{zigs, zags, after}
+use Rattle.theory.specs.Tests.{facts, test-eq}
+use Rattle.theory.specs.Greatest.{descends}
+use Rattle.theory.specs.Parting.{Describes}
+use Rattle.theory.specs.Describing.{stays, parts-drop, after-ext}
+use Rattle.sheet.specs.Entry.{Entry}
+use Rattle.refinement.specs.Places.{placed, unparted, unpartedBefore, among, nonzeros, nonzeros-set, nonzeros-most, eq-or-ne, place-below, place-row, place-column, placed-set, placed-other, among-inside, among-at}
+use Rattle.refinement.specs.Entries.{Grows}
+use Rattle.refinement.specs.Refining.{State, DescribedBy, Named, Refined, Redescribed, Written}
+
+-- ---- more entries, a larger depth, a larger relation
+
+-- and fewer nodes among which it describes
+pub describes-more : {s : Sides} {l r : Graph} {c d d′ x : ℕ} {z z′ : Relation} {A B : ℕ → Type 0} {q q′ : NodeExpr} → d ≤ d′ → q′ ≡ q
+    → ((y : ℕ) → B y → A y × (So (z x y) → So (z′ x y))) → Describes s l r c d z x A q → Describes s l r c d′ z′ x B q′
+describes-more h e f t =
+    rw e (record {
+      within = t .within;
+      spoken = t .spoken;
+      shallow = omega (arith, t .shallow);
+      own = t .own;
+      only = λ y o u. let (v, g) = f y o in g (t .only y v u);
+    })
+
+pub described-more : {s : Sides} {l r : Graph} {c d d′ : ℕ} {z z′ : Relation} {es es′ : List Entry} {xs : List ℕ} → d ≤ d′ → Grows es es′
+    → ((x y : ℕ) → x < l .size → y < r .size → So (z x y) → So (z′ x y)) → DescribedBy s l r c d z es xs → DescribedBy s l r c d′ z′ es′ xs
+described-more h g f t =
+    record {
+      wide = t .wide;
+      earlier = λ x o. omega (arith, t .earlier x o, g .longer);
+      describes = λ x o. describes-more h (g .same _ (t .earlier x o)) (λ y u. (u, f x y o u)) (t .describes x o);
+    }
+
+pub redescribed-more : {s : Sides} {l r : Graph} {c d x : ℕ} {z : Relation} {es es′ : List Entry} {xs xs′ : List ℕ} → Grows es es′
+    → Redescribed s l r c d z es xs xs′ x → Redescribed s l r c d z es′ xs xs′ x
+redescribed-more g t =
+    record {
+      entry = t .entry;
+      is = t .is;
+      number = omega (arith, t .number, g .longer);
+      describes = rw (g .same _ (t .number)) (t .describes);
+    }
+
+named-more : {s : Sides} {l r : Graph} {c a b i : ℕ} {es es′ : List Entry} → Grows es es′ → Named s l r c es a b i → Named s l r c es′ a b i
+named-more g t =
+    record { number = omega (arith, g .longer); round = t .round; before = t .before; parts = rw (g .same _ (t .number)) (t .parts) }
+
+-- one node described anew
+described-set : {s : Sides} {l r : Graph} {c d a : ℕ} {z z′ : Relation} {es es′ : List Entry} {xs xs′ : List ℕ} → Grows es es′
+    → Redescribed s l r c d z′ es′ xs xs′ a → ((x y : ℕ) → x < l .size → y < r .size → x ≢ a → So (z x y) → So (z′ x y))
+    → DescribedBy s l r c d z es xs → DescribedBy s l r c d z′ es′ xs′
+described-set {l = l} {a = a} {xs = xs} {xs′ = xs′} g n f t =
+    record {
+      wide = rw (n .is) (simp length-set (t .wide));
+      earlier = λ x o. ⊎-elim (λ e. rw (here x o e) (n .number)) (λ e. rw (other x e) (omega (arith, t .earlier x o, g .longer))) (eq-or-ne x a);
+      describes = λ x o.
+          ⊎-elim (λ e. rw (here x o e) (rw e (n .describes)))
+          (λ e. rw (other x e) (describes-more (le-refl _) (g .same _ (t .earlier x o)) (λ y v. (v, f x y o v e)) (t .describes x o)))
+          (eq-or-ne x a);
+    }
+  where
+    here : (x : ℕ) → x < l .size → x ≡ a → getD xs′ x 0 ≡ n .entry
+    here x o e = rw (n .is, e) (getD-set-same xs a (n .entry) 0 (omega (arith, t .wide)))
+
+    other : (x : ℕ) → x ≢ a → getD xs′ x 0 ≡ getD xs x 0
+    other x e = rw (n .is) (getD-set-other xs a x (n .entry) 0 e)
+
+-- ---- one pair
+
+module _ {s : Sides} {l r : Graph} {c k start a b : ℕ} {now : State} (wl : WellFormed l) (wr : WellFormed r)
+    (inv : Refined s l r c k start (a * r .size + b) now) (o : a < l .size) (u : b < r .size) where
+  -- the places before the next one are those before this one, and this one
+  before-next : (x y : ℕ) → y < r .size → x * r .size + y < suc (a * r .size + b) → ((x ≡ a) × (y ≡ b)) ⊎ (x * r .size + y < a * r .size + b)
+  before-next x y v h = ⊎-elim (λ e. inl (place-row _ x y a b v u e, place-column _ x y a b v u e)) inr (eq-or-lt-of-le (le-of-suc-le-suc h))
+
+  -- a pair whose clauses are met, or that was parted before
+  pub stays-refined : (So (after s l r c k a b) → So (zigs l r c (after s l r c k) a b) × So (zags s l r c (after s l r c k) a b))
+      → Refined s l r c k start (suc (a * r .size + b)) now
+  stays-refined f =
+      record {
+        sheet = inv .sheet;
+        few = inv .few;
+        room = inv .room;
+        size = inv .size;
+        settled = λ x y o′ u′ h. ⊎-elim (λ (e, e′). rw (e, e′) here) (λ h′. inv .settled x y o′ u′ h′) (before-next x y u′ h);
+        waiting = λ x y o′ u′ h. inv .waiting x y o′ u′ (omega arith);
+        named = inv .named;
+        began = inv .began;
+        from = inv .from;
+        oldLeft = inv .oldLeft;
+        oldRight = inv .oldRight;
+        newLeft = inv .newLeft;
+        newRight = inv .newRight;
+      }
+    where
+      here : unparted (r .size) (now .map) a b ≡ after s l r c (suc k) a b
+      here =
+          inv .waiting a b o u (le-refl _)
+          ∙ test-eq _ _ (λ e. let t = f e in stays s c wl wr k a b e (t .0) (t .1)) (descends s c wl wr k a b)
+
+  -- a place that holds a number: its pair was parted before
+  pub nonzero-refined : placed (r .size) (now .map) a b ≢ 0 → Refined s l r c k start (suc (a * r .size + b)) now
+  nonzero-refined h = stays-refined (λ e. absurd (h (eqb-true _ 0 (inv .waiting a b o u (le-refl _) ∙ e))))
+
+  -- a place that holds 0: its pair is related as the round began
+  pub zero-related : placed (r .size) (now .map) a b ≡ 0 → So (after s l r c k a b)
+  zero-related h = sym (inv .waiting a b o u (le-refl _)) ∙ eq-eqb _ 0 h
+
+  place-inside : a * r .size + b < length (now .map)
+  place-inside = rw (inv .size) (place-below (l .size) (r .size) a b o u)
+
+  -- and there is room for what parts it
+  pub zero-spare : placed (r .size) (now .map) a b ≡ 0 → suc (nonzeros (now .map)) ≤ l .size * r .size
+  zero-spare h =
+      let p = a * r .size + b in
+      let t = nonzeros-set (now .map) p 1 place-inside h (omega arith) in
+      omega (arith, t, nonzeros-most (set (now .map) p 1), length-set (now .map) p 1, inv .size)
+
+  module _ {next : State} {i : ℕ} (e : So (after s l r c k a b)) (t : Written s l r c k a b now next i) where
+    placed-still : (x y : ℕ) → x * r .size + y ≢ a * r .size + b → placed (r .size) (next .map) x y ≡ placed (r .size) (now .map) x y
+    placed-still x y h = rw (t .map) (placed-other (r .size) (now .map) a b i x y h)
+
+    placed-here : placed (r .size) (next .map) a b ≡ i
+    placed-here = rw (t .map) (placed-set (r .size) (now .map) a b i place-inside)
+
+    entry-positive : 0 < i
+    entry-positive = omega (arith, inv .sheet .some, t .fresh)
+
+    nonzeros-more : nonzeros (next .map) ≡ suc (nonzeros (now .map))
+    nonzeros-more = rw (t .map) (nonzeros-set (now .map) (a * r .size + b) i place-inside (eqb-true _ _ (inv .waiting a b o u (le-refl _) ∙ e)) entry-positive)
+
+    this-or-other : (x y : ℕ) → y < r .size → ((x ≡ a) × (y ≡ b)) ⊎ (x * r .size + y ≢ a * r .size + b)
+    this-or-other x y v = ⊎-elim (λ q. inl (place-row _ x y a b v u q, place-column _ x y a b v u q)) inr (eq-or-ne (x * r .size + y) (a * r .size + b))
+
+    -- a pair that is parted, however that is written
+    pub written-refined : Refined s l r c k start (suc (a * r .size + b)) next
+    written-refined =
+        record {
+          sheet = t .sheet;
+          few = omega (arith, nonzeros-more, inv .few, t .few);
+          room = omega (arith, nonzeros-more, inv .room, t .room);
+          size = rw (t .map) (simp length-set (inv .size));
+          settled = λ x y o′ u′ h. ⊎-elim
+              (λ (p, p′). rw (p, p′, placed-here) (ne-eqb i 0 (λ q. omega (arith, entry-positive)) ∙ sym (parts-drop s c wl wr (suc k) a b _ (t .parts))))
+              (λ h′. rw (placed-still x y (λ q. omega arith)) (inv .settled x y o′ u′ h′))
+              (before-next x y u′ h);
+          waiting = λ x y o′ u′ h. rw (placed-still x y (λ q. omega arith)) (inv .waiting x y o′ u′ (omega arith));
+          named = λ x y o′ u′. ⊎-elim
+              (λ (p, p′). rw (p, p′, placed-here) (λ f. record { number = t .number; round = k; before = e; parts = t .parts }))
+              (λ q. rw (placed-still x y q) (λ f. named-more (t .grows) (inv .named x y o′ u′ f)))
+              (this-or-other x y u′);
+          began = λ x y o′ u′. ⊎-elim
+              (λ (p, p′). rw (p, p′, placed-here) (simp facts (inr (le-leb start i (omega (arith, inv .from, t .fresh)))) ∙ sym e))
+              (λ q. rw (placed-still x y q) (inv .began x y o′ u′))
+              (this-or-other x y u′);
+          from = omega (arith, inv .from, t .grows .longer);
+          oldLeft = rw (t .oldLeft) (described-more (le-refl k) (t .grows) (λ x y _ _ h. h) (inv .oldLeft));
+          oldRight = λ q. rw (t .oldRight) (described-more (le-refl k) (t .grows) (λ x y _ _ h. h) (inv .oldRight q));
+          newLeft = described-set (t .grows) (t .newLeft)
+              (λ x y o′ u′ q h. rw (placed-still x y (λ v. q (place-row _ x y a b u′ u v))) h) (inv .newLeft);
+          newRight = λ d. described-set (t .grows) (t .newRight d)
+              (λ y x u′ o′ q h. rw (placed-still x y (λ v. q (place-column _ x y a b u′ u v))) h) (inv .newRight d);
+        }
+
+-- the relation that the round began with, read from the map
+pub began-is : {s : Sides} {l r : Graph} {c k start p : ℕ} {now : State} → WellFormed l → WellFormed r → Refined s l r c k start p now
+    → among (l .size) (r .size) (unpartedBefore (r .size) start (now .map)) ≡ after s l r c k
+began-is {s} {l} {r} {c} {k} {start} {p} {now} wl wr inv =
+    let z : Relation = unpartedBefore (r .size) start (now .map) in
+    after-ext s c wl wr k (among (l .size) (r .size) z) (among-inside (l .size) (r .size) z)
+    (λ a b o u. among-at (l .size) (r .size) z a b o u ∙ inv .began a b o u)

@@ -1,0 +1,3 @@
+mod Bodies
+pub mod Laws
+mod Vectors

@@ -1,0 +1,47 @@
+-- `sheet::first_way` meets its contract: its steps stand behind the step counts. Assumes nothing.
+use borrow.Author.Needs.{needs}
+use Rattle.sheet.specs.Reading.{first-inside}
+use Rattle.sheet.proofs.Laws.{first-of-way, first-of-comparison}
+use Rattle.sheet.proofs.first_way.Statement.{statement}
+use Rattle.sheet.proofs.first_way.Tie as tie
+
+add-wide : tie.Need-add-wide
+add-wide c = search needs
+
+shared-slice-read-wide : tie.Need-shared-slice-read-wide
+shared-slice-read-wide c = search first-inside
+
+wide-requires : tie.Need-wide-requires
+wide-requires c κs = search needs
+
+add-if1 : tie.Need-add-if1
+add-if1 c = search needs
+
+shared-slice-read-if1 : tie.Need-shared-slice-read-if1
+shared-slice-read-if1 c = search needs
+
+add-t9 : tie.Need-add-t9
+add-t9 c = search needs
+
+returns : tie.Need-returns
+returns c = search first-of-way
+
+add-t4 : tie.Need-add-t4
+add-t4 c = search needs
+
+returns-2 : tie.Need-returns-2
+returns-2 c = search first-of-comparison
+
+pub first-way-spec : {M : Type 1} → statement M
+first-way-spec =
+    tie.close
+    (tie.spec
+    add-wide
+    shared-slice-read-wide
+    wide-requires
+    add-if1
+    shared-slice-read-if1
+    add-t9
+    returns
+    add-t4
+    returns-2)

@@ -1,0 +1,26 @@
+-- `sheet_writer::put_pair` meets its contract: two stores. Assumes nothing.
+use native.Mathlib.Omega.{arith}
+use borrow.Author.Needs.{needs}
+use lib.ListN.{length-set}
+use Rattle.sheet_writer.proofs.Laws.{pair-written}
+use Rattle.sheet_writer.proofs.put_pair.Statement.{statement}
+use Rattle.sheet_writer.proofs.put_pair.Tie as tie
+
+slice-write-room : tie.Need-slice-write-room
+slice-write-room c = search needs
+
+add-room : tie.Need-add-room
+add-room c = search needs
+
+slice-write-room-2 : tie.Need-slice-write-room-2
+slice-write-room-2 c = simp length-set (omega arith)
+
+same-length : tie.Need-same-length
+same-length c = search needs
+
+returns : tie.Need-returns
+returns c = search pair-written
+
+pub put-pair-spec : {M : Type 1} → statement M
+put-pair-spec =
+    tie.close (tie.spec slice-write-room add-room slice-write-room-2 same-length returns)

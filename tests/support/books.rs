@@ -1,0 +1,71 @@
+//! Books as data, and their bytes.
+
+use super::random::Random;
+use super::set_length;
+use std::collections::BTreeSet;
+
+/// Ordered as triples.
+#[derive(Clone, Copy, PartialEq, Eq, PartialOrd, Ord, Debug)]
+pub struct Link {
+    pub from: u8,
+    pub label: u8,
+    pub to: u8,
+}
+
+#[derive(Clone, PartialEq, Eq, Debug)]
+pub struct Book {
+    /// Of cells 0 to n - 1.
+    pub recordings: Vec<u32>,
+    pub links: Vec<Link>,
+}
+
+pub fn link(from: u8, label: u8, to: u8) -> Link {
+    Link { from, label, to }
+}
+
+impl Book {
+    /// The bytes of these recordings and links, whether or not a check would accept them. The fields for n and e hold as
+    /// much of the counts as they can.
+    pub fn bytes(&self) -> Vec<u8> {
+        let mut bytes = vec![0, 0, 0, 0, 1, self.recordings.len() as u8];
+        bytes.extend((self.links.len() as u16).to_be_bytes());
+        for recording in &self.recordings {
+            bytes.extend(recording.to_be_bytes());
+        }
+        for link in &self.links {
+            bytes.extend([link.from, link.label, link.to]);
+        }
+        set_length(&mut bytes);
+        bytes
+    }
+}
+
+/// The most links that a book of `cells` cells can have with so many different labels.
+pub fn most_links(cells: usize, labels: usize) -> usize {
+    (cells * labels * cells).min(512)
+}
+
+/// A book that is accepted: 1 to 64 cells; labels below `labels` (1 to 256); recordings below `recordings` (1 to 2^32);
+/// `links` links, at most `most_links`.
+pub fn random_book(
+    random: &mut Random,
+    cells: usize,
+    links: usize,
+    labels: usize,
+    recordings: usize,
+) -> Book {
+    assert!(links <= most_links(cells, labels));
+    let mut rising = BTreeSet::new();
+    while rising.len() < links {
+        let from = random.below(cells) as u8;
+        let label = random.below(labels) as u8;
+        let to = random.below(cells) as u8;
+        rising.insert(link(from, label, to));
+    }
+    Book {
+        recordings: (0..cells)
+            .map(|_| random.below(recordings) as u32)
+            .collect(),
+        links: rising.into_iter().collect(),
+    }
+}

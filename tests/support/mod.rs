@@ -1,0 +1,32 @@
+//! What the tests in Rust share. A test includes it by
+//! `#[path = "../support/mod.rs"] mod support;` and links libcapi.a.
+#![allow(dead_code)] // each test uses a part
+
+pub mod books;
+pub mod checks;
+pub mod library;
+pub mod outcome;
+pub mod random;
+pub mod sheets;
+
+/// Writes the number of all bytes into the length field, bytes 0 to 3, as far as there are such bytes.
+pub fn set_length(bytes: &mut [u8]) {
+    let length = (bytes.len() as u32).to_be_bytes();
+    for (byte, field) in bytes.iter_mut().zip(length) {
+        *byte = field;
+    }
+}
+
+/// The bytes with other values at some places.
+pub fn changed(bytes: &[u8], changes: &[(usize, u8)]) -> Vec<u8> {
+    let mut bytes = bytes.to_vec();
+    for &(place, value) in changes {
+        bytes[place] = value;
+    }
+    bytes
+}
+
+/// The bytes in hexadecimal.
+pub fn hex(bytes: &[u8]) -> String {
+    bytes.iter().map(|byte| format!("{byte:02x}")).collect()
+}

@@ -1,0 +1,165 @@
+//! Sheets as data, and their bytes.
+
+use super::random::Random;
+use super::set_length;
+
+/// A step along a label, with the number of a test at the cell reached.
+#[derive(Clone, Copy, PartialEq, Eq, Debug)]
+pub struct Step {
+    pub label: u8,
+    pub test: u16,
+}
+
+/// The kinds 0 to 6. A number names an earlier entry.
+#[derive(Clone, PartialEq, Eq, Debug)]
+pub enum Entry {
+    True,
+    Not(u16),
+    And(u16, u16),
+    Or(u16, u16),
+    Way(Vec<Step>),
+    Same(Vec<Step>, Vec<Step>),
+    Differ(Vec<Step>, Vec<Step>),
+}
+
+#[derive(Clone, PartialEq, Eq, Debug)]
+pub struct Sheet {
+    pub bound: u8,
+    pub entries: Vec<Entry>,
+}
+
+pub fn step(label: u8, test: u16) -> Step {
+    Step { label, test }
+}
+
+impl Entry {
+    /// The kind byte and what follows it.
+    pub fn body(&self) -> Vec<u8> {
+        let mut body = Vec::new();
+        match self {
+            Entry::True => body.push(0),
+            Entry::Not(a) => {
+                body.push(1);
+                body.extend(a.to_be_bytes());
+            }
+            Entry::And(a, b) | Entry::Or(a, b) => {
+                body.push(if matches!(self, Entry::And(..)) { 2 } else { 3 });
+                body.extend(a.to_be_bytes());
+                body.extend(b.to_be_bytes());
+            }
+            Entry::Way(steps) => {
+                body.extend([4, steps.len() as u8]);
+                push_steps(&mut body, steps);
+            }
+            Entry::Same(w, v) | Entry::Differ(w, v) => {
+                body.push(if matches!(self, Entry::Same(..)) {
+                    5
+                } else {
+                    6
+                });
+                body.extend([w.len() as u8, v.len() as u8]);
+                push_steps(&mut body, w);
+                push_steps(&mut body, v);
+            }
+        }
+        body
+    }
+
+    /// The entry with its count byte.
+    pub fn bytes(&self) -> Vec<u8> {
+        counted(&self.body())
+    }
+}
+
+fn push_steps(body: &mut Vec<u8>, steps: &[Step]) {
+    for step in steps {
+        body.push(step.label);
+        body.extend(step.test.to_be_bytes());
+    }
+}
+
+/// What an entry holds, after the byte that counts it.
+pub fn counted(body: &[u8]) -> Vec<u8> {
+    [&[body.len() as u8], body].concat()
+}
+
+/// The bytes of a sheet with these header fields, of entries that are bytes already.
+pub fn sheet_bytes(bound: u8, q: u16, entries: &[Vec<u8>]) -> Vec<u8> {
+    let mut bytes = vec![0, 0, 0, 0, 1, bound];
+    bytes.extend(q.to_be_bytes());
+    bytes.extend(entries.iter().flatten());
+    set_length(&mut bytes);
+    bytes
+}
+
+impl Sheet {
+    /// The bytes of these entries, whether or not a check would accept them.
+    pub fn bytes(&self) -> Vec<u8> {
+        let entries: Vec<Vec<u8>> = self.entries.iter().map(Entry::bytes).collect();
+        sheet_bytes(self.bound, self.entries.len() as u16, &entries)
+    }
+}
+
+/// The number of an entry before entry `number`, which is not 0: any, or the one just before.
+pub fn random_number(random: &mut Random, number: usize) -> u16 {
+    if random.one_in(4) {
+        return number as u16 - 1;
+    }
+    random.below(number) as u16
+}
+
+/// Steps with labels below `labels` (1 to 256) and tests before entry `number`, which is not 0.
+pub fn random_steps(random: &mut Random, number: usize, count: usize, labels: usize) -> Vec<Step> {
+    (0..count)
+        .map(|_| step(random.below(labels) as u8, random_number(random, number)))
+        .collect()
+}
+
+/// An entry of any kind that may stand at `number` in a sheet of this bound. Its ways have at most `longest` steps (0 to 60).
+pub fn random_entry(
+    random: &mut Random,
+    number: usize,
+    bound: u8,
+    longest: usize,
+    labels: usize,
+) -> Entry {
+    if number == 0 {
+        return Entry::True;
+    }
+    let kind = random.below(7);
+    let most = if kind == 4 {
+        longest
+    } else {
+        longest.min(bound as usize)
+    };
+    let (j, k) = (random.between(0, most), random.between(0, most));
+    match kind {
+        0 => Entry::True,
+        1 => Entry::Not(random_number(random, number)),
+        2 => Entry::And(random_number(random, number), random_number(random, number)),
+        3 => Entry::Or(random_number(random, number), random_number(random, number)),
+        4 => Entry::Way(random_steps(random, number, k, labels)),
+        5 => Entry::Same(
+            random_steps(random, number, j, labels),
+            random_steps(random, number, k, labels),
+        ),
+        _ => Entry::Differ(
+            random_steps(random, number, j, labels),
+            random_steps(random, number, k, labels),
+        ),
+    }
+}
+
+/// A sheet that is accepted: bound 0 to 4, 1 to 16,385 entries.
+pub fn random_sheet(
+    random: &mut Random,
+    bound: u8,
+    entries: usize,
+    longest: usize,
+    labels: usize,
+) -> Sheet {
+    let entries = (0..entries)
+        .map(|number| random_entry(random, number, bound, longest, labels))
+        .collect();
+    Sheet { bound, entries }
+}
