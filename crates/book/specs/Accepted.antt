@@ -13,7 +13,7 @@ use Rattle.theory.specs.Tests.{and-iff, or-iff, sum-iff, eqb-iff, list-at}
 use Rattle.theory.specs.Search.{list}
 use Rattle.theory.specs.Graph.{Comparison, same, differ, Link, Inside, WellFormed, compared}
 use Rattle.book.specs.Book.{lengthOf, versionOf, cellsOf, linksOf, recordingAt, labelWidth, linkWidth, linkPlace, linkAt, orElse, countsRefusal, headRefusal, below, precedes, rises, linkRefusal, linksRefusal, bookRefusal, bookAnswer}
-use Rattle.book.specs.BookGraph.{voice, graphOf}
+use Rattle.book.specs.BookGraph.{dataValue, graphOf}
 use Rattle.book.specs.declared.BookAnswer.the-variants.{Accepted, Refused}
 
 -- ---- refusals
@@ -217,7 +217,7 @@ pub graph-link : (s : List ℕ) (k : ℕ) (other : Link) → k < linksOf s → g
 graph-link s k other h = list-at (linksOf s) (linkAt s) k other h
 
 -- two cells pass a comparison where their recordings do
-pub book-ends : (s : List ℕ) (t : Comparison) (x y : ℕ) → graphOf s .ends t x y ≡ compared voice t (recordingAt s x) (recordingAt s y)
+pub book-ends : (s : List ℕ) (t : Comparison) (x y : ℕ) → graphOf s .ends t x y ≡ compared dataValue t (recordingAt s x) (recordingAt s y)
 unfolding compared
 book-ends s same x y = refl
 book-ends s differ x y = refl

@@ -6,8 +6,8 @@ use Rattle.theory.specs.Graph.{Graph, Link, dataGraph}
 use Rattle.book.specs.Book.{cellsOf, linksOf, recordingAt, linkAt}
 
 -- What is compared of a recording: two are same where this is.
-abbrev pub voice : ℕ → ℕ
-voice recording = recording
+abbrev pub dataValue : ℕ → ℕ
+dataValue recording = recording
 
 -- The links in order.
 abbrev pub bookLinks : List ℕ → List Link
@@ -15,4 +15,4 @@ bookLinks s = list (linksOf s) (linkAt s)
 
 -- The data graph of a book.
 abbrev pub graphOf : List ℕ → Graph
-graphOf s = dataGraph (cellsOf s) (bookLinks s) (λ x. voice (recordingAt s x))
+graphOf s = dataGraph (cellsOf s) (bookLinks s) (λ x. dataValue (recordingAt s x))

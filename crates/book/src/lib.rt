@@ -7,7 +7,7 @@ ghost use Rattle.fields.specs.Fields.{field};
 ghost use Rattle.theory.specs.Graph.{compared, same, differ};
 ghost use Rattle.outcome.specs.Outcome.{code};
 ghost use Rattle.book.specs.Book.{cellsOf, linksOf, recordingAt, labelWidth, linkPlace, linkAt, countsRefusal, headRefusal, precedes, linkRefusal, linksRefusal, bookRefusal, bookAnswer, bookOutcome, asLink};
-ghost use Rattle.book.specs.BookGraph.{voice};
+ghost use Rattle.book.specs.BookGraph.{dataValue};
 ghost use Rattle.book.specs.BookLinks.{firstLink, RangeOut, partFrom, linksAnswer, linksPart, linksOutcome};
 
 // A cell of the left book.
@@ -251,14 +251,14 @@ pub fn recording_of(bytes: &[u8], cell: usize) -> Recording
 
 // Whether two recordings are same.
 pub fn same(a: Recording, b: Recording) -> bool
-    ensures { λ r. ⌜ r ≡ compared voice same (a .0) (b .0) ⌝ }
+    ensures { λ r. ⌜ r ≡ compared dataValue same (a .0) (b .0) ⌝ }
 {
     a.0 == b.0
 }
 
 // Whether two recordings differ.
 pub fn differ(a: Recording, b: Recording) -> bool
-    ensures { λ r. ⌜ r ≡ compared voice differ (a .0) (b .0) ⌝ }
+    ensures { λ r. ⌜ r ≡ compared dataValue differ (a .0) (b .0) ⌝ }
 {
     a.0 != b.0
 }

@@ -179,11 +179,12 @@ pub withField-bytes : (w : ℕ) (s : List ℕ) (at v : ℕ) → Bytes s → Byte
 unfolding withField
 withField-bytes w s at v b = sets-bytes (bytesOf w v) s at b (bytesOf-bytes w v)
 
--- two fields written side by side are one
-sets-append : (us vs l : List ℕ) (at : ℕ) → sets l at (us ++ vs) ≡ sets (sets l at us) (at + length us) vs
+-- two runs of numbers set side by side are one
+pub sets-append : (us vs l : List ℕ) (at : ℕ) → sets l at (us ++ vs) ≡ sets (sets l at us) (at + length us) vs
 sets-append [] vs l at = rw add-zero
 sets-append (a ∷ us) vs l at = sets-append us vs (set l at a) (suc at) ∙ ap (λ (k : ℕ). sets (sets (set l at a) (suc at) us) k vs) (omega arith)
 
+-- two fields written side by side are one
 pub withField-join : (v w : ℕ) (s : List ℕ) (at x y : ℕ) {mid end : List ℕ} → y < 256 ^ w → mid ≡ withField v s at x → end ≡ withField w mid (at + v) y
     → end ≡ withField (v + w) s at (x * 256 ^ w + y)
 unfolding withField

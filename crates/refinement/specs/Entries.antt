@@ -12,10 +12,10 @@ use Rattle.theory.specs.Walks.{linked-inside}
 use Rattle.theory.specs.Bisimulation.{Relation}
 use Rattle.theory.specs.Parting.{Reason, byLink, byPaths, Fails, pathExpr, asked}
 use Rattle.sheet.specs.Entry.{Step, Entry, truth, negation, conjunction, way, comparison, named, spellWay, spell, expressions, expression, tests, numbers, Short, Below, WellFormedEntry, WellFormedFrom, WellFormed as WellFormedEntries}
-use Rattle.sheet.specs.Expressions.{expression-front, expression-is, well-formed-at, well-formed-snoc}
+use Rattle.sheet.specs.Expressions.{below-both, expression-front, expression-is, well-formed-at, well-formed-snoc}
 use Rattle.sheet.specs.Sheet.{mostBound, labelWidth, stepWidth}
 use Rattle.sheet.specs.Encoding.{encode, stepLabels, labels, Labelled}
-use Rattle.sheet.specs.Written.{sizeOf, length-encodeEntry, encode-snoc}
+use Rattle.sheet.specs.Written.{sizeOf, length-encodeEntry, encode-snoc, labelled-snoc}
 
 -- ---- one entry more
 
@@ -60,18 +60,13 @@ unfolding spell
 expression-zero {es = es} s =
     expression-is (s .formed) 0 (s .some) ∙ ap (spell (expressions es)) (well-formed-at (s .formed) 0 (s .some) .first refl)
 
-labelled-append : (es fs : List Entry) → Labelled es → Labelled fs → Labelled (es ++ fs)
-unfolding Labelled
-labelled-append [] fs h k = k
-labelled-append (e ∷ es) fs h k = (h .0, labelled-append es fs (h .1) k)
-
 pub sheet-snoc : {c : ℕ} {es : List Entry} → Sheet c es → (e : Entry) → Fit c (length es) e → Sheet c (es ++ (e ∷ []))
 unfolding Labelled
 sheet-snoc {es = es} s e f =
     record {
       some = simp length-append (omega arith);
       formed = well-formed-snoc (s .formed) e (f .formed);
-      labelled = labelled-append es (e ∷ []) (s .labelled) (f .labelled, tt);
+      labelled = labelled-snoc es e (s .labelled) (f .labelled);
     }
 
 pub length-snoc : (es : List Entry) (e : Entry) → length (es ++ (e ∷ [])) ≡ suc (length es)
@@ -132,11 +127,6 @@ module _ (xs : List ℕ) where
   unfolding reasonEntry sizeOf
   size-reasonEntry l r c z a b (byLink h) m f = omega (arith, length-stepsAlong (h ∷ []))
   size-reasonEntry l r c z a b (byPaths t p q) m f = omega (arith, length-stepsAlong p, length-stepsAlong q, f .short, f .short′)
-
-below-both : (n : ℕ) (is js : List ℕ) → Below n is → Below n js → Below n (is ++ js)
-unfolding Below
-below-both n [] js h k = k
-below-both n (i ∷ is) js h k = (h .0, below-both n is js (h .1) k)
 
 module _ {l : Graph} (w : WellFormed l) (narrow : Narrow l) (n : ℕ) (xs : List ℕ) (some : 1 ≤ n) (earlier : (x : ℕ) → x < l .size → getD xs x 0 < n) where
   stepsAlong-below : (p : Path) (x : ℕ) → Walk l x p → Below n (tests (stepsAlong xs p)) × Below (256 ^ labelWidth) (stepLabels (stepsAlong xs p))

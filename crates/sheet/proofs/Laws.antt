@@ -13,7 +13,7 @@ use Rattle.sheet.specs.Sheet.{lengthOf, boundOf, countOf, numberAt, step
 use Rattle.fields.specs.Fields.{field}
 use Rattle.sheet.specs.Accepted.{entryStart-next}
 use Rattle.sheet.specs.Reading.{Readable, HasNumber, HasWay, HasStep, Reads, stepsOf, firstPlace, secondPlace, readable, kind-read, number-read, first-reads, second-two, second-reads, steps-in}
-use Rattle.sheet.specs.Passed.{kind-good, standing, headed, accepted-head}
+use Rattle.sheet.specs.Passed.{kind-passed, standing, headed, accepted-head}
 use Rattle.sheet.proofs.Bodies.{numbers-append, body-true, body-not, body-two, body-way, body-comparison, body-plain}
 use Rattle.outcome.specs.Outcome.{outcome, code}
 use Rattle.sheet.specs.declared.Steps.{Steps}
@@ -259,7 +259,7 @@ module _ (s : List ℕ) (c q at n : ℕ) (i : entriesRefusal s c 0 headSize q �
 
 -- ---- what the callers ask of a stage that is passed, in the form in which they ask it
 pub kind-most : (n kind r : ℕ) → r ≡ kindRefusal n kind → r ≡ 0 → kind ≤ mostKind
-kind-most n kind r d z = kind-good n kind (sym d ∙ z) .0
+kind-most n kind r d z = kind-passed n kind (sym d ∙ z) .0
 
 pub entry-inside : (s : List ℕ) (c n at r : ℕ) → r ≡ entryRefusal s c n at → r ≡ 0 → at + getD s at 0 < length s
 entry-inside s c n at r d z = standing s c n at (sym d ∙ z) .inside

@@ -145,6 +145,11 @@ unfolding Below
 below-append n [] js h = (tt, h)
 below-append n (i ∷ is) js h = let (a, b) = below-append n is js (h .1) in ((h .0, a), b)
 
+pub below-both : (n : ℕ) (is js : List ℕ) → Below n is → Below n js → Below n (is ++ js)
+unfolding Below
+below-both n [] js h k = k
+below-both n (i ∷ is) js h k = (h .0, below-both n is js (h .1) k)
+
 module _ (qs more : List NodeExpr) (n : ℕ) (k : n ≤ length qs) where
   same-named : (i : ℕ) → i < n → named (qs ++ more) i ≡ named qs i
   same-named i h = List·getD-append qs more always i (omega arith)

@@ -76,9 +76,9 @@ pub record Standing (s : List ℕ) (c n at : ℕ) : Type 0 where
   pub first : n ≡ 0 → getD s (at + 1) 0 ≡ 0
   pub body : Sized s c n (getD s (at + 1) 0) (at + 2) (getD s at 0 - 1)
 
-pub kind-good : (n kind : ℕ) → kindRefusal n kind ≡ 0 → (kind ≤ mostKind) × (n ≡ 0 → kind ≡ 0)
+pub kind-passed : (n kind : ℕ) → kindRefusal n kind ≡ 0 → (kind ≤ mostKind) × (n ≡ 0 → kind ≡ 0)
 unfolding kindRefusal
-kind-good n kind h =
+kind-passed n kind h =
     let a = skip (ltb mostKind kind) 9 h in
     let b = skip (eqb n 0 && not (eqb kind 0)) 12 (a .1) in
     (ltb-false _ _ (a .0), λ z. only (eqb kind 0) refl (simp (eq-eqb n 0 z) at (b .0)))
@@ -93,7 +93,7 @@ standing s c n at h =
     let b = skip (eqb (getD s at 0) 0) 8 (a .1) in
     let d = skip (leb (length s) (at + getD s at 0)) 8 (b .1) in
     let e = skip-first (kindRefusal n (getD s (at + 1) 0)) (d .1) in
-    let k = kind-good n (getD s (at + 1) 0) (e .0) in
+    let k = kind-passed n (getD s (at + 1) 0) (e .0) in
     let f = eqb-false _ _ (b .0) in
     record {
       present = positive (getD s at 0) f;

@@ -308,7 +308,7 @@ pub record Writable (c : ℕ) (es : List Entry) : Type 0 where
   pub formed : WellFormed c es
   pub labelled : Labelled es
 
-labelled-snoc : (es : List Entry) (e : Entry) → Labelled es → Below (256 ^ labelWidth) (labels e) → Labelled (es ++ (e ∷ []))
+pub labelled-snoc : (es : List Entry) (e : Entry) → Labelled es → Below (256 ^ labelWidth) (labels e) → Labelled (es ++ (e ∷ []))
 unfolding Labelled
 labelled-snoc [] e h l = (l, tt)
 labelled-snoc (x ∷ es) e h l = (h .0, labelled-snoc es e (h .1) l)

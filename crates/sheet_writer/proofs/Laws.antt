@@ -7,13 +7,13 @@ use native.Mathlib.Omega.{arith}
 use lib.ListN.{length, getD, set, length-append}
 use lib.Seq.{sets}
 use Rattle.fields.specs.Fields.{bytesOf, withField}
-use Rattle.fields.specs.Laws.{length-bytesOf}
+use Rattle.fields.specs.Laws.{length-bytesOf, sets-append}
 use Rattle.sheet.specs.Entry.{Step, entryWith, kindOf, truth, negation, conjunction, disjunction, way}
 use Rattle.sheet.specs.Sheet.{labelWidth, numberWidth, stepWidth}
 use Rattle.sheet.specs.Encoding.{encodeSteps, bodyOf, encodeEntry, header}
 use Rattle.sheet.specs.Accepted.{kind-cases}
 use Rattle.sheet.specs.Written.{sizeOf, length-encodeSteps}
-use Rattle.sheet_writer.specs.Writing.{step, stepsFrom, stepsGiven, Wrote, WroteWays, sets-append}
+use Rattle.sheet_writer.specs.Writing.{step, stepsFrom, stepsGiven, Wrote, WroteWays}
 
 -- one run of bytes behind another
 after : {mid exit : List ℕ} (room : List ℕ) (at to : ℕ) (us vs : List ℕ) → mid ≡ sets room at us → exit ≡ sets mid to vs → to ≡ at + length us → exit ≡ sets room at (us ++ vs)

@@ -2,9 +2,8 @@
 use mathlib.Core.List.{List, [], _∷_, _++_, append-assoc}
 use mathlib.Core.Path.{_≡_, refl, sym, ap, ap₂, _∙_}
 use Prim.Native.Nat.{ℕ, zero, suc, _+_, _-_, _*_, _≤_}
-use native.Mathlib.Nat.{add-zero}
 use native.Mathlib.Omega.{arith}
-use lib.ListN.{length, getD, take, drop, set, length-append, length-drop}
+use lib.ListN.{length, getD, take, drop, length-append, length-drop}
 use lib.Seq.{sets, sets-eq, length-sets, length-take-le, take-at, drop-at, take-add, drop-append-le, take-append-add, drop-append-add, drop-drop}
 use Rattle.sheet.specs.Entry.{Step, Entry}
 use Rattle.sheet.specs.Sheet.{headSize, mostBound, stepWidth}
@@ -56,11 +55,6 @@ pub record Holding (room : List ℕ) (es : List Entry) (at : ℕ) : Type 0 where
 -- ---- a run of bytes written
 
 module _ {A : Type 0} where
-  pub sets-append : (us vs l : List A) (at : ℕ) → sets l at (us ++ vs) ≡ sets (sets l at us) (at + length us) vs
-  sets-append [] vs l at = rw add-zero
-  sets-append (a ∷ us) vs l at =
-      sets-append us vs (set l at a) (suc at) ∙ ap (λ (k : ℕ). sets (sets (set l at a) (suc at) us) k vs) (omega arith)
-
   take-drop : (n m : ℕ) (l : List A) → n ≤ length l → drop n (take (n + m) l) ≡ take m (drop n l)
   take-drop n m l h = rw (take-add n m l) (drop-at (take n l) (take m (drop n l)) n (length-take-le n l h))
 

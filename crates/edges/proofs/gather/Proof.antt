@@ -1,0 +1,102 @@
+-- `edges::gather` meets its contract. The invariant is that of `image`, for rows. Assumes nothing.
+use mathlib.Core.Path.{_≡_}
+use mathlib.Core.Logic.{⊎-elim}
+use Prim.Native.Nat.{_-_, _≤_}
+use native.Mathlib.Omega.{arith}
+use Rattle.edges.specs.Edges.{edges, gather, emptyRows}
+use Rattle.edges.proofs.Laws.{low-fits, low-scaled, from-below, to-below, rest, gather-start, gather-end, gather-next, gather-other, gather-outside}
+use Rattle.edges.proofs.gather.Statement.{statement}
+use Rattle.edges.proofs.gather.Tie as tie
+
+abbrev Inv-loop : tie.InvT-loop
+Inv-loop count from labels to label w later rows₀ k₀ rows k =
+    (gather (rest count from labels to k) label w later rows ≡ gather (edges count from labels to) label w later (emptyRows 64)) × (k ≤ count)
+
+abbrev μ-loop : tie.MeasureT-loop
+μ-loop count from labels to label w later rows₀ k₀ rows k = count - k
+
+loop-holds : tie.Need-loop-holds Inv-loop μ-loop
+unfolding emptyRows
+loop-holds c = (gather-start _ _ _ _ _ _ _ _, omega arith)
+
+mul-if1 : tie.Need-mul-if1 Inv-loop μ-loop
+mul-if1 c = omega arith
+
+element-copy-out-if1 : tie.Need-element-copy-out-if1 Inv-loop μ-loop
+element-copy-out-if1 c = omega arith
+
+element-copy-out-has : tie.Need-element-copy-out-has Inv-loop μ-loop
+element-copy-out-has c = omega arith
+
+has-requires : tie.Need-has-requires Inv-loop μ-loop
+has-requires c κs = search (from-below, to-below)
+
+element-copy-out-i : tie.Need-element-copy-out-i Inv-loop μ-loop
+element-copy-out-i c = omega arith
+
+cast-i : tie.Need-cast-i Inv-loop μ-loop
+cast-i c = search (from-below, to-below, low-fits)
+
+element-copy-out-j : tie.Need-element-copy-out-j Inv-loop μ-loop
+element-copy-out-j c = omega arith
+
+cast-j : tie.Need-cast-j Inv-loop μ-loop
+cast-j c = search (from-below, to-below, low-fits)
+
+mul-rows : tie.Need-mul-rows Inv-loop μ-loop
+mul-rows c = search (from-below, to-below, low-scaled)
+
+array-read-rows : tie.Need-array-read-rows Inv-loop μ-loop
+array-read-rows c = search (from-below, to-below)
+
+mul-rows-2 : tie.Need-mul-rows-2 Inv-loop μ-loop
+mul-rows-2 c = search (from-below, to-below, low-scaled)
+
+element-copy-out-rows : tie.Need-element-copy-out-rows Inv-loop μ-loop
+element-copy-out-rows c = search (from-below, to-below)
+
+mul-rows-3 : tie.Need-mul-rows-3 Inv-loop μ-loop
+mul-rows-3 c = search (from-below, to-below, low-scaled)
+
+array-write-rows : tie.Need-array-write-rows Inv-loop μ-loop
+array-write-rows c = search (from-below, to-below)
+
+add-k : tie.Need-add-k Inv-loop μ-loop
+add-k c = omega arith
+
+loop-less : tie.Need-loop-less Inv-loop μ-loop
+loop-less c = omega arith
+
+loop-again : tie.Need-loop-again Inv-loop μ-loop
+loop-again c =
+    ⊎-elim (λ w. (search gather-next, omega arith)) (⊎-elim (λ w. (search gather-outside, omega arith)) (λ w. (search gather-other, omega arith)))
+    (c .if1 .came)
+
+returns : tie.Need-returns Inv-loop μ-loop
+returns c = search gather-end
+
+pub gather-spec : {M : Type 1} → statement M
+gather-spec =
+    tie.close
+    (tie.spec
+    Inv-loop
+    μ-loop
+    loop-holds
+    mul-if1
+    element-copy-out-if1
+    element-copy-out-has
+    has-requires
+    element-copy-out-i
+    cast-i
+    element-copy-out-j
+    cast-j
+    mul-rows
+    array-read-rows
+    mul-rows-2
+    element-copy-out-rows
+    mul-rows-3
+    array-write-rows
+    add-k
+    loop-less
+    loop-again
+    returns)

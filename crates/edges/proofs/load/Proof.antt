@@ -1,0 +1,68 @@
+-- `edges::load` meets its contract. The invariant: the links passed are loaded. Assumes nothing.
+use Prim.Native.Nat.{_-_, _≤_}
+use native.Mathlib.Omega.{arith}
+use borrow.Author.Needs.{needs}
+use Rattle.edges.proofs.Books.{book-long, links-few, Filled, filled-none, filled-more, filled-all}
+use Rattle.edges.proofs.load.Statement.{statement}
+use Rattle.edges.proofs.load.Tie as tie
+
+abbrev Inv-loop : tie.InvT-loop
+Inv-loop book from₀ labels₀ to₀ e k₀ from labels to k = Filled book from labels to k × (k ≤ e) × (e ≤ 512)
+
+abbrev μ-loop : tie.MeasureT-loop
+μ-loop book from₀ labels₀ to₀ e k₀ from labels to k = e - k
+
+links-of-requires : tie.Need-links-of-requires Inv-loop μ-loop
+links-of-requires c κs = search book-long
+
+loop-holds : tie.Need-loop-holds Inv-loop μ-loop
+loop-holds c = (search filled-none, omega arith, search links-few)
+
+link-of-requires : tie.Need-link-of-requires Inv-loop μ-loop
+link-of-requires c κs = search needs
+
+element-write-from : tie.Need-element-write-from Inv-loop μ-loop
+element-write-from c = omega arith
+
+cast-labels : tie.Need-cast-labels Inv-loop μ-loop
+cast-labels c = search needs
+
+mul-labels : tie.Need-mul-labels Inv-loop μ-loop
+mul-labels c = omega arith
+
+element-write-labels : tie.Need-element-write-labels Inv-loop μ-loop
+element-write-labels c = omega arith
+
+element-write-to : tie.Need-element-write-to Inv-loop μ-loop
+element-write-to c = omega arith
+
+add-k : tie.Need-add-k Inv-loop μ-loop
+add-k c = omega arith
+
+loop-less : tie.Need-loop-less Inv-loop μ-loop
+loop-less c = omega arith
+
+loop-again : tie.Need-loop-again Inv-loop μ-loop
+loop-again c = (search filled-more, omega arith, omega arith)
+
+returns : tie.Need-returns Inv-loop μ-loop
+returns c = search filled-all
+
+pub load-spec : {M : Type 1} → statement M
+load-spec =
+    tie.close
+    (tie.spec
+    Inv-loop
+    μ-loop
+    links-of-requires
+    loop-holds
+    link-of-requires
+    element-write-from
+    cast-labels
+    mul-labels
+    element-write-labels
+    element-write-to
+    add-k
+    loop-less
+    loop-again
+    returns)

@@ -1,0 +1,4 @@
+pub mod Edges
+pub mod BookEdges
+pub mod Laws
+pub mod BookLaws

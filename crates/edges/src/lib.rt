@@ -1,0 +1,157 @@
+// The links of a book loaded once into three lists, and sets of cells carried along them as words: the hot loops of Truth and Compare,
+// which know nothing of a book's bytes.
+ghost use mathlib.Core.Path.{_≡_};
+ghost use mathlib.Core.Bool.{cond};
+ghost use Prim.Native.Nat.{_^_, _<_};
+ghost use lib.ListN.{length};
+ghost use Rattle.theory.specs.Graph.{compared};
+ghost use Rattle.words.specs.Words.{bit};
+ghost use Rattle.book.specs.Book.{cellsOf, bookRefusal};
+ghost use Rattle.book.specs.BookGraph.{dataValue};
+ghost use Rattle.edges.specs.Edges.{edges, Held, image, gather, emptyRows, anyPasses};
+ghost use Rattle.edges.specs.BookEdges.{Loaded, comparisonOf, passingTo, passing};
+use book::Recording;
+
+// What is asked of the recordings of two cells (01: same, differ).
+pub enum Comparison {
+    Same,
+    Differ,
+}
+
+// Loads the links of an accepted book, in order: link k leads from cell from[k] by labels[k] to cell to[k].
+pub fn load(book: &[u8], from: &mut [u8; 512], labels: &mut [u16; 512], to: &mut [u8; 512])
+    requires { ⌜ (bookRefusal (now book) ≡ 0) × (length (now from) ≡ 512) × (length (now labels) ≡ 512) × (length (now to) ≡ 512) ⌝ }
+    ensures { λ _. ⌜ Loaded (now (book .entry)) (now (from .exit)) (now (labels .exit)) (now (to .exit)) ⌝ }
+{
+    let e = book::links_of(book);
+    let mut k = 0;
+    while k < e {
+        let link = book::link_of(book, k);
+        from[k] = link.from;
+        labels[k] = link.label as u16;
+        to[k] = link.to;
+        k += 1;
+    }
+}
+
+// The set of node j where w has node i, else the empty set.
+fn moved(w: u64, i: u8, j: u8) -> u64
+    requires { ⌜ (i < 64) × (j < 64) ⌝ }
+    ensures { λ r. ⌜ r ≡ cond (bit w i) (2 ^ j) 0 ⌝ }
+{
+    ((w >> i) & 1) << j
+}
+
+// The nodes that a link with the label leads to from a node of w, of the first `count` links. With the lists of from and to nodes
+// exchanged, the nodes that such a link leads from into w. No branch depends on w.
+pub fn image(
+    count: usize,
+    from: &[u8; 512],
+    labels: &[u16; 512],
+    to: &[u8; 512],
+    label: u16,
+    w: u64,
+) -> u64
+    requires { ⌜ Held count (now from) (now to) ⌝ }
+    ensures { λ r. ⌜ r ≡ image (edges count (now (from .entry)) (now (labels .entry)) (now (to .entry))) label w 0 ⌝ }
+{
+    let mut out: u64 = 0;
+    let mut k = 0;
+    while k < count {
+        let one = moved(w, from[k], to[k]);
+        if labels[k] == label {
+            out = out | one;
+        }
+        k += 1;
+    }
+    out
+}
+
+// Rows of sets, one a node: the row of a node is the union of the rows, in `later`, of the nodes of w that a link with the label
+// leads to from it.
+pub fn gather(
+    count: usize,
+    from: &[u8; 512],
+    labels: &[u16; 512],
+    to: &[u8; 512],
+    label: u16,
+    w: u64,
+    later: &[u64; 64],
+) -> [u64; 64]
+    requires { ⌜ Held count (now from) (now to) ⌝ }
+    ensures { λ r. ⌜ r ≡ gather (edges count (now (from .entry)) (now (labels .entry)) (now (to .entry))) label w (now (later .entry)) (emptyRows 64) ⌝ }
+{
+    let mut rows = [0u64; 64];
+    let mut k = 0;
+    while k < count {
+        if labels[k] == label {
+            if words::has(w, to[k]) {
+                let i = from[k] as usize;
+                let j = to[k] as usize;
+                rows[i] = rows[i] | later[j];
+            }
+        }
+        k += 1;
+    }
+    rows
+}
+
+// Whether some node y of `first` and some node z of `second` have bit z set in row y.
+pub fn any_passes(first: u64, second: u64, rows: &[u64; 64]) -> bool
+    ensures { λ r. ⌜ r ≡ anyPasses first second (now (rows .entry)) ⌝ }
+{
+    let mut left = first;
+    while left != 0 {
+        let y = words::lowest(left);
+        if words::meet(second, rows[y as usize]) != 0 {
+            return true;
+        }
+        left = words::without(left, y);
+    }
+    false
+}
+
+// Whether two recordings pass the comparison.
+fn passes(comparison: Comparison, a: Recording, b: Recording) -> bool
+    ensures { λ r. ⌜ r ≡ compared dataValue (comparisonOf comparison) (a .0) (b .0) ⌝ }
+{
+    match comparison {
+        Comparison::Same => book::same(a, b),
+        Comparison::Differ => book::differ(a, b),
+    }
+}
+
+// The cells that pass the comparison with cell x.
+fn passing_with(book: &[u8], comparison: Comparison, x: usize) -> u64
+    requires { ⌜ (bookRefusal (now book) ≡ 0) × (x < cellsOf (now book)) ⌝ }
+    ensures { λ r. ⌜ r ≡ passingTo (now (book .entry)) (comparisonOf comparison) x (cellsOf (now (book .entry))) ⌝ }
+{
+    let n = book::cells_of(book);
+    let here = book::recording_of(book, x);
+    let mut out: u64 = 0;
+    let mut y = 0;
+    while y < n {
+        let there = book::recording_of(book, y);
+        if passes(comparison, here, there) {
+            out = words::with(out, y as u8);
+        }
+        y += 1;
+    }
+    out
+}
+
+// Rows of sets, one a cell of an accepted book: row x is the set of the cells that pass the comparison with cell x. The rows from the
+// number of cells on are empty.
+pub fn passing(book: &[u8], comparison: Comparison) -> [u64; 64]
+    requires { ⌜ bookRefusal (now book) ≡ 0 ⌝ }
+    ensures { λ r. ⌜ r ≡ passing (now (book .entry)) (comparisonOf comparison) ⌝ }
+{
+    let n = book::cells_of(book);
+    let mut rows = [0u64; 64];
+    let mut x = 0;
+    while x < n {
+        rows[x] = passing_with(book, comparison, x);
+        x += 1;
+    }
+    rows
+}
