@@ -1,0 +1,66 @@
+-- `evaluate::end_rows` meets its contract. The invariant: the rows are those of the steps from `left` on. Assumes nothing.
+use mathlib.Core.Path.{_≡_}
+use Prim.Native.Nat.{_≤_}
+use native.Mathlib.Omega.{arith}
+use borrow.Author.Needs.{needs}
+use lib.ListN.{length, drop}
+use Rattle.sheet.specs.Reading.{stepsOf}
+use Rattle.edges.specs.Edges.{edges, Held}
+use Rattle.evaluate.specs.Evaluation.{endRows, WayKnown}
+use Rattle.evaluate.proofs.Laws.{has-step, rows-start, rows-next, rows-end}
+use Rattle.evaluate.proofs.end_rows.Statement.{statement}
+use Rattle.evaluate.proofs.end_rows.Tie as tie
+
+abbrev Inv-loop : tie.InvT-loop
+Inv-loop count from labels to sheet way known rows₀ left₀ rows left = (rows ≡ endRows (edges count from labels to) known (drop left (stepsOf sheet way))) × (left ≤ way .count)
+    × Held count from to × WayKnown sheet way (length known)
+
+abbrev μ-loop : tie.MeasureT-loop
+μ-loop count from labels to sheet way known rows₀ left₀ rows left = left
+
+singles-requires : tie.Need-singles-requires Inv-loop μ-loop
+singles-requires c κs = search needs
+
+loop-holds : tie.Need-loop-holds Inv-loop μ-loop
+loop-holds c = (search rows-start, search needs, search needs, search needs)
+
+sub-left : tie.Need-sub-left Inv-loop μ-loop
+sub-left c = omega arith
+
+label-requires : tie.Need-label-requires Inv-loop μ-loop
+label-requires c κs = search (has-step, needs)
+
+cast-label : tie.Need-cast-label Inv-loop μ-loop
+cast-label c = search needs
+
+tested-word-requires : tie.Need-tested-word-requires Inv-loop μ-loop
+tested-word-requires c κs = search needs
+
+gather-requires : tie.Need-gather-requires Inv-loop μ-loop
+gather-requires c κs = search needs
+
+loop-less : tie.Need-loop-less Inv-loop μ-loop
+loop-less c = omega arith
+
+loop-again : tie.Need-loop-again Inv-loop μ-loop
+loop-again c = (search rows-next, omega arith, search needs, search needs)
+
+returns : tie.Need-returns Inv-loop μ-loop
+returns c = search rows-end
+
+pub end-rows-spec : {M : Type 1} → statement M
+end-rows-spec =
+    tie.close
+    (tie.spec
+    Inv-loop
+    μ-loop
+    singles-requires
+    loop-holds
+    sub-left
+    label-requires
+    cast-label
+    tested-word-requires
+    gather-requires
+    loop-less
+    loop-again
+    returns)

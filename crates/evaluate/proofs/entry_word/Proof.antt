@@ -1,0 +1,58 @@
+-- `evaluate::entry_word` meets its contract. A return for each kind. Assumes nothing.
+use borrow.Author.Needs.{needs}
+use Rattle.evaluate.proofs.Laws.{first-known, entry-plain, entry-way, entry-same, entry-differ}
+use Rattle.evaluate.proofs.entry_word.Statement.{statement}
+use Rattle.evaluate.proofs.entry_word.Tie as tie
+
+kind-requires : tie.Need-kind-requires
+kind-requires c κs = search needs
+
+full-requires : tie.Need-full-requires
+full-requires c κs = search needs
+
+plain-word-requires : tie.Need-plain-word-requires
+plain-word-requires c κs = search needs
+
+returns : tie.Need-returns
+returns c = search entry-plain
+
+first-way-requires : tie.Need-first-way-requires
+first-way-requires c κs = search needs
+
+full-requires-2 : tie.Need-full-requires-2
+full-requires-2 c κs = search needs
+
+way-word-requires : tie.Need-way-word-requires
+way-word-requires c κs = (search needs, search first-known)
+
+returns-2 : tie.Need-returns-2
+returns-2 c = search entry-way
+
+pair-word-requires : tie.Need-pair-word-requires
+pair-word-requires c κs = search needs
+
+returns-3 : tie.Need-returns-3
+returns-3 c = search entry-same
+
+pair-word-requires-2 : tie.Need-pair-word-requires-2
+pair-word-requires-2 c κs = search needs
+
+returns-4 : tie.Need-returns-4
+returns-4 c = search entry-differ
+
+pub entry-word-spec : {M : Type 1} → statement M
+entry-word-spec =
+    tie.close
+    (tie.spec
+    kind-requires
+    full-requires
+    plain-word-requires
+    returns
+    first-way-requires
+    full-requires-2
+    way-word-requires
+    returns-2
+    pair-word-requires
+    returns-3
+    pair-word-requires-2
+    returns-4)

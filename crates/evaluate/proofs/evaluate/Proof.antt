@@ -1,0 +1,70 @@
+-- `evaluate::evaluate` meets its contract. The invariant: what is written from here on is what is written from the start on, and entry k starts at `at`. Assumes nothing.
+use mathlib.Core.Path.{_≡_}
+use Prim.Native.Nat.{_≤_, _-_}
+use native.Mathlib.Omega.{arith}
+use borrow.Author.Needs.{needs}
+use lib.ListN.{length}
+use Rattle.sheet.specs.Sheet.{entryStart}
+use Rattle.edges.specs.Edges.{Held}
+use Rattle.evaluate.specs.Evaluation.{tables, evaluatedFrom, evaluated, Room}
+use Rattle.evaluate.proofs.Laws.{room-first, room-known, room-readable, evaluate-start, evaluate-next, evaluate-end, start-next}
+use Rattle.evaluate.proofs.evaluate.Statement.{statement}
+use Rattle.evaluate.proofs.evaluate.Tie as tie
+
+abbrev Inv-loop : tie.InvT-loop
+Inv-loop n count from labels to same differ sheet upto known₀ at₀ k₀ known at k = (evaluatedFrom (tables n count from labels to same differ) sheet k at (upto - k) known ≡ evaluated (tables n count from labels to same differ) sheet upto known₀)
+    × (at ≡ entryStart sheet k) × (k ≤ upto) × (length known ≡ length known₀) × (n ≤ 64) × Held count from to × Room sheet upto (length known₀)
+
+abbrev μ-loop : tie.MeasureT-loop
+μ-loop n count from labels to same differ sheet upto known₀ at₀ k₀ known at k = upto - k
+
+entry-start-requires : tie.Need-entry-start-requires Inv-loop μ-loop
+entry-start-requires c κs = search room-first
+
+loop-holds : tie.Need-loop-holds Inv-loop μ-loop
+loop-holds c = (search evaluate-start, search needs, omega arith, search needs, search needs, search needs, search needs)
+
+entry-word-requires : tie.Need-entry-word-requires Inv-loop μ-loop
+entry-word-requires c κs = (search needs, search needs, search room-known)
+
+mul-known : tie.Need-mul-known Inv-loop μ-loop
+mul-known c = search needs
+
+slice-write-known : tie.Need-slice-write-known Inv-loop μ-loop
+slice-write-known c = search needs
+
+next-start-requires : tie.Need-next-start-requires Inv-loop μ-loop
+next-start-requires c κs = search room-readable
+
+add-k : tie.Need-add-k Inv-loop μ-loop
+add-k c = search needs
+
+loop-less : tie.Need-loop-less Inv-loop μ-loop
+loop-less c = omega arith
+
+loop-again : tie.Need-loop-again Inv-loop μ-loop
+loop-again c = (search evaluate-next, search start-next, omega arith, search needs, search needs, search needs, search needs)
+
+same-length : tie.Need-same-length Inv-loop μ-loop
+same-length c = search needs
+
+returns : tie.Need-returns Inv-loop μ-loop
+returns c = search evaluate-end
+
+pub evaluate-spec : {M : Type 1} → statement M
+evaluate-spec =
+    tie.close
+    (tie.spec
+    Inv-loop
+    μ-loop
+    entry-start-requires
+    loop-holds
+    entry-word-requires
+    mul-known
+    slice-write-known
+    next-start-requires
+    add-k
+    loop-less
+    loop-again
+    same-length
+    returns)

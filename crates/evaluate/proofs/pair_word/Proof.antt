@@ -1,0 +1,34 @@
+-- `evaluate::pair_word` meets its contract. Assumes nothing.
+use borrow.Author.Needs.{needs}
+use Rattle.evaluate.proofs.Laws.{first-known, second-known, pair-returned}
+use Rattle.evaluate.proofs.pair_word.Statement.{statement}
+use Rattle.evaluate.proofs.pair_word.Tie as tie
+
+first-way-requires : tie.Need-first-way-requires
+first-way-requires c κs = search needs
+
+second-way-requires : tie.Need-second-way-requires
+second-way-requires c κs = search needs
+
+end-rows-requires : tie.Need-end-rows-requires
+end-rows-requires c κs = (search needs, search first-known)
+
+end-rows-requires-2 : tie.Need-end-rows-requires-2
+end-rows-requires-2 c κs = (search needs, search second-known)
+
+comparison-word-requires : tie.Need-comparison-word-requires
+comparison-word-requires c κs = search needs
+
+returns : tie.Need-returns
+returns c = search pair-returned
+
+pub pair-word-spec : {M : Type 1} → statement M
+pair-word-spec =
+    tie.close
+    (tie.spec
+    first-way-requires
+    second-way-requires
+    end-rows-requires
+    end-rows-requires-2
+    comparison-word-requires
+    returns)

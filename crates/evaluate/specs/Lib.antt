@@ -1,0 +1,4 @@
+pub mod Evaluation
+pub mod Ways
+pub mod Writing
+pub mod Evaluated

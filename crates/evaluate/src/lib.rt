@@ -1,0 +1,205 @@
+// The words of a sheet's entries, one after another, over the tables of a graph: sets of nodes as words.
+ghost use mathlib.Core.Path.{_≡_};
+ghost use Prim.Native.Nat.{_^_, _≤_, _<_};
+ghost use lib.ListN.{length, getD};
+ghost use Rattle.theory.specs.Search.{list};
+ghost use Rattle.sheet.specs.Entry.{kindOf, stepIn, numbers};
+ghost use Rattle.sheet.specs.Sheet.{entryAt};
+ghost use Rattle.sheet.specs.Reading.{stepsOf, HasNumber};
+ghost use Rattle.edges.specs.Edges.{edges, Held};
+ghost use Rattle.evaluate.specs.Evaluation.{tables, plainWord, wayWord, endRows, comparisonWord, pairWord, entryWord, evaluated, WayKnown, EntryKnown, Room};
+use sheet::Question;
+
+// The word of the entry that number i of the not, and or or at `at` names.
+fn named_word(sheet: &[u8], at: usize, i: usize, known: &[u64]) -> u64
+    requires { ⌜ HasNumber (now sheet) at i × EntryKnown (now sheet) at (length (now known)) ⌝ }
+    ensures { λ r. ⌜ r ≡ getD (now (known .entry)) (getD (numbers (entryAt (now (sheet .entry)) at)) i 0) 0 ⌝ }
+{
+    let k = sheet::number(sheet, at, i).0 as usize;
+    known[k]
+}
+
+// The word of the entry that the test of step i of a way names.
+fn tested_word(sheet: &[u8], way: sheet::Steps, i: usize, known: &[u64]) -> u64
+    requires { ⌜ (i < way .count) × WayKnown (now sheet) way (length (now known)) ⌝ }
+    ensures { λ r. ⌜ r ≡ getD (now (known .entry)) (stepIn (stepsOf (now (sheet .entry)) way) i .test) 0 ⌝ }
+{
+    let k = sheet::test(sheet, way, i).0 as usize;
+    known[k]
+}
+
+// The word of the true, not, and or or at `at`.
+fn plain_word(every: u64, sheet: &[u8], at: usize, known: &[u64]) -> u64
+    requires { ⌜ EntryKnown (now sheet) at (length (now known)) × (kindOf (entryAt (now sheet) at) < 4) ⌝ }
+    ensures { λ r. ⌜ r ≡ plainWord every (now (known .entry)) (entryAt (now (sheet .entry)) at) ⌝ }
+{
+    let kind = sheet::kind(sheet, at);
+    if kind == 0 {
+        return every;
+    }
+    let a = named_word(sheet, at, 0, known);
+    if kind == 1 {
+        return every ^ a;
+    }
+    let b = named_word(sheet, at, 1, known);
+    if kind == 2 {
+        return words::meet(a, b);
+    }
+    words::union(a, b)
+}
+
+// The nodes with a way of the steps, from the last step to the first over one word.
+fn way_word(
+    every: u64,
+    count: usize,
+    from: &[u8; 512],
+    labels: &[u16; 512],
+    to: &[u8; 512],
+    sheet: &[u8],
+    way: sheet::Steps,
+    known: &[u64],
+) -> u64
+    requires { ⌜ Held count (now from) (now to) × WayKnown (now sheet) way (length (now known)) ⌝ }
+    ensures { λ r. ⌜ r ≡ wayWord every (edges count (now (to .entry)) (now (labels .entry)) (now (from .entry))) (now (known .entry)) (stepsOf (now (sheet .entry)) way) ⌝ }
+{
+    let mut out = every;
+    let mut left = way.count;
+    while 0 < left {
+        left -= 1;
+        let label = sheet::label(sheet, way, left) as u16;
+        let tested = tested_word(sheet, way, left, known);
+        out = edges::image(count, to, labels, from, label, words::meet(tested, out));
+    }
+    out
+}
+
+// For each node the set of that node.
+fn singles() -> [u64; 64]
+    ensures { λ r. ⌜ r ≡ list 64 (λ x. 2 ^ x) ⌝ }
+{
+    let mut rows = [0u64; 64];
+    let mut x: u8 = 0;
+    while x < 64 {
+        rows[x as usize] = words::only(x);
+        x += 1;
+    }
+    rows
+}
+
+// For each node the ends of the ways of the steps from it, from the last step to the first for all nodes together.
+fn end_rows(
+    count: usize,
+    from: &[u8; 512],
+    labels: &[u16; 512],
+    to: &[u8; 512],
+    sheet: &[u8],
+    way: sheet::Steps,
+    known: &[u64],
+) -> [u64; 64]
+    requires { ⌜ Held count (now from) (now to) × WayKnown (now sheet) way (length (now known)) ⌝ }
+    ensures { λ r. ⌜ r ≡ endRows (edges count (now (from .entry)) (now (labels .entry)) (now (to .entry))) (now (known .entry)) (stepsOf (now (sheet .entry)) way) ⌝ }
+{
+    let mut rows = singles();
+    let mut left = way.count;
+    while 0 < left {
+        left -= 1;
+        let label = sheet::label(sheet, way, left) as u16;
+        let tested = tested_word(sheet, way, left, known);
+        rows = edges::gather(count, from, labels, to, label, tested, &rows);
+    }
+    rows
+}
+
+// The nodes below n with an end in their first row and an end in their second that pass.
+fn comparison_word(n: u8, rows: &[u64; 64], firsts: &[u64; 64], seconds: &[u64; 64]) -> u64
+    requires { ⌜ n ≤ 64 ⌝ }
+    ensures { λ r. ⌜ r ≡ comparisonWord n (now (rows .entry)) (now (firsts .entry)) (now (seconds .entry)) ⌝ }
+{
+    let mut out: u64 = 0;
+    let mut x: u8 = 0;
+    while x < n {
+        let i = x as usize;
+        if edges::any_passes(firsts[i], seconds[i], rows) {
+            out = words::with(out, x);
+        }
+        x += 1;
+    }
+    out
+}
+
+// The word of the same or differ at `at`, from the rows of that comparison.
+fn pair_word(
+    n: u8,
+    count: usize,
+    from: &[u8; 512],
+    labels: &[u16; 512],
+    to: &[u8; 512],
+    rows: &[u64; 64],
+    sheet: &[u8],
+    at: usize,
+    known: &[u64],
+) -> u64
+    requires { ⌜ (n ≤ 64) × Held count (now from) (now to) × EntryKnown (now sheet) at (length (now known)) × (5 ≤ kindOf (entryAt (now sheet) at)) ⌝ }
+    ensures { λ r. ⌜ r ≡ pairWord n (now (rows .entry)) (edges count (now (from .entry)) (now (labels .entry)) (now (to .entry))) (now (known .entry)) (entryAt (now (sheet .entry)) at) ⌝ }
+{
+    let first = sheet::first_way(sheet, at);
+    let second = sheet::second_way(sheet, at);
+    let firsts = end_rows(count, from, labels, to, sheet, first, known);
+    let seconds = end_rows(count, from, labels, to, sheet, second, known);
+    comparison_word(n, rows, &firsts, &seconds)
+}
+
+// The word of the entry at `at`, from the words of the entries before it.
+fn entry_word(
+    n: u8,
+    count: usize,
+    from: &[u8; 512],
+    labels: &[u16; 512],
+    to: &[u8; 512],
+    same: &[u64; 64],
+    differ: &[u64; 64],
+    sheet: &[u8],
+    at: usize,
+    known: &[u64],
+) -> u64
+    requires { ⌜ (n ≤ 64) × Held count (now from) (now to) × EntryKnown (now sheet) at (length (now known)) ⌝ }
+    ensures { λ r. ⌜ r ≡ entryWord (tables n count (now (from .entry)) (now (labels .entry)) (now (to .entry)) (now (same .entry)) (now (differ .entry))) (now (known .entry)) (entryAt (now (sheet .entry)) at) ⌝ }
+{
+    let kind = sheet::kind(sheet, at);
+    if kind < 4 {
+        return plain_word(words::full(n), sheet, at, known);
+    }
+    if kind == 4 {
+        let way = sheet::first_way(sheet, at);
+        return way_word(words::full(n), count, from, labels, to, sheet, way, known);
+    }
+    if kind == 5 {
+        return pair_word(n, count, from, labels, to, same, sheet, at, known);
+    }
+    pair_word(n, count, from, labels, to, differ, sheet, at, known)
+}
+
+// Writes the words of the first `upto` entries of an accepted sheet, from the front.
+pub fn evaluate(
+    n: u8,
+    count: usize,
+    from: &[u8; 512],
+    labels: &[u16; 512],
+    to: &[u8; 512],
+    same: &[u64; 64],
+    differ: &[u64; 64],
+    sheet: &[u8],
+    upto: usize,
+    known: &mut [u64],
+)
+    requires { ⌜ (n ≤ 64) × Held count (now from) (now to) × Room (now sheet) upto (length (now known)) ⌝ }
+    ensures { λ _. ⌜ now (known .exit) ≡ evaluated (tables n count (now (from .entry)) (now (labels .entry)) (now (to .entry)) (now (same .entry)) (now (differ .entry))) (now (sheet .entry)) upto (now (known .entry)) ⌝ }
+{
+    let mut at = sheet::entry_start(sheet, Question(0));
+    let mut k = 0;
+    while k < upto {
+        known[k] = entry_word(n, count, from, labels, to, same, differ, sheet, at, known);
+        at = sheet::next_start(sheet, at);
+        k += 1;
+    }
+}
