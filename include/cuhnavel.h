@@ -1,7 +1,8 @@
 /* Cuhnavel's C interface. Link with libcapi.a, which `rt staticlib capi` writes to target/staticlib/.
  *
- * Bytes are lent as a pointer, which is not null even where no bytes are lent, and their number. No function keeps a pointer,
- * and none writes to bytes that it takes as const.
+ * Bytes, words and map places are lent as a pointer, which is not null even where none are lent and is aligned for what it
+ * points to, and their number. No function keeps a pointer, and none writes to what it takes as const. What a function writes
+ * to overlaps nothing else that it is lent; on a refusal it is as it was.
  *
  * An answer is one number: refusal + 2^8 x part + 2^16 x first + 2^40 x second.
  *   refusal  0: accepted; else the number of the first refusal that applies
@@ -62,6 +63,60 @@ uint64_t cuhnavel_check_book(const uint8_t *bytes, size_t len);
  *   9  bytes are left over
  */
 uint64_t cuhnavel_check_sheet(const uint8_t *bytes, size_t len);
+
+/* Truth: where the questions of a sheet are true in a book. Accepted: with q the sheet's number of entries and n the book's
+ * number of cells, word k (0 to q - 1) has bit i (value 2^i) exactly when entry k is true at cell i; bits from n up are 0;
+ * words from q on are as they were. Both values are 0.
+ * Refused:
+ *   the book's refusal, as cuhnavel_check_book
+ *   the sheet's refusal, as cuhnavel_check_sheet
+ *   24 fewer than q words, part CUHNAVEL_CALL
+ */
+uint64_t cuhnavel_truth(const uint8_t *book, size_t book_len, const uint8_t *sheet, size_t sheet_len, uint64_t *words,
+                        size_t words_len);
+
+/* Claim: is an entry of a sheet true at a cell of the left book and false at a cell of the right one? Accepted: first is 1 for
+ * yes, 0 for no. For either the words end as cuhnavel_truth of the right book and the sheet leaves them.
+ * Refused:
+ *   the left book's refusal, part CUHNAVEL_LEFT_BOOK
+ *   the right book's refusal, part CUHNAVEL_RIGHT_BOOK
+ *   the sheet's refusal, part CUHNAVEL_SHEET
+ * then, part CUHNAVEL_CALL:
+ *   24 fewer words than the sheet has entries
+ *   25 entry is not below the sheet's number of entries
+ *   26 a cell is not in its book
+ */
+uint64_t cuhnavel_claim(const uint8_t *left, size_t left_len, const uint8_t *right, size_t right_len, const uint8_t *sheet,
+                        size_t sheet_len, size_t entry, size_t left_cell, size_t right_cell, uint64_t *words,
+                        size_t words_len);
+
+/* Row: the right cells that left cell i is matched with, in a map of rows of m places. Accepted: first is how many they are.
+ * Refused, part CUHNAVEL_CALL:
+ *   27 m is 0 or above 64
+ *   26 places i x m to i x m + m - 1 are not all in the map
+ */
+uint64_t cuhnavel_row(const uint16_t *map, size_t map_len, size_t m, size_t i);
+
+/* Row's word: bit j (value 2^j) is set exactly when place i x m + j holds 0. 0 where cuhnavel_row refuses. */
+uint64_t cuhnavel_row_word(const uint16_t *map, size_t map_len, size_t m, size_t i);
+
+/* Pair: the question of a sheet that parts the pair at a place of a map. Accepted: first is its number, second the byte of the
+ * sheet where its entry starts; both are 0 where the pair is matched.
+ * Refused:
+ *   the sheet's refusal, as cuhnavel_check_sheet
+ * then, part CUHNAVEL_CALL:
+ *   26 the place is not in the map
+ *   25 the number at the place is not 0 and not below the sheet's number of entries
+ */
+uint64_t cuhnavel_pair(const uint16_t *map, size_t map_len, size_t place, const uint8_t *sheet, size_t sheet_len);
+
+/* Links: the links out of a cell, as a part of the book's bytes. Accepted: first is how many they are, second the byte of the
+ * book where the first of them starts (0 if there are none); each is 3 bytes: from cell, label, to cell.
+ * Refused:
+ *   the book's refusal, as cuhnavel_check_book
+ *   26 the cell is not in the book, part CUHNAVEL_CALL
+ */
+uint64_t cuhnavel_links(const uint8_t *book, size_t book_len, size_t cell);
 
 #ifdef __cplusplus
 }

@@ -1,7 +1,7 @@
 //! Books: accepted ones of all sizes, each limit of document 01, and damaged ones.
 
 use crate::damage;
-use crate::support::books::{link, most_links, random_book, Book, Link};
+use crate::support::books::{example_a_left, link, most_links, random_book, Book, Link};
 use crate::support::outcome::{accepted, refused, LEFT_BOOK};
 use crate::support::random::Random;
 use crate::support::{changed, set_length};
@@ -26,14 +26,6 @@ pub fn all(tally: &mut Tally) {
         &[0, 0, 0, 5, 0, 1, 0, 0, 2, 0],
     );
     damage::past_the_length_field(tally, &example_a_left().bytes());
-}
-
-/// Document 01, example A.
-fn example_a_left() -> Book {
-    Book {
-        recordings: vec![5, 5, 6],
-        links: vec![link(0, 1, 1), link(0, 1, 2)],
-    }
 }
 
 /// Answers found by hand: one input at least for each refusal, and two refusals at once.

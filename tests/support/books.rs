@@ -38,6 +38,41 @@ impl Book {
         set_length(&mut bytes);
         bytes
     }
+
+    /// The book that these bytes hold, which a check accepts.
+    pub fn of_bytes(bytes: &[u8]) -> Book {
+        let (recordings, links) = bytes[8..].split_at(4 * bytes[5] as usize);
+        Book {
+            recordings: recordings
+                .chunks(4)
+                .map(|field| u32::from_be_bytes([field[0], field[1], field[2], field[3]]))
+                .collect(),
+            links: links
+                .chunks(3)
+                .map(|field| link(field[0], field[1], field[2]))
+                .collect(),
+        }
+    }
+
+    pub fn cells(&self) -> usize {
+        self.recordings.len()
+    }
+}
+
+/// Document 01, example A, left.
+pub fn example_a_left() -> Book {
+    Book {
+        recordings: vec![5, 5, 6],
+        links: vec![link(0, 1, 1), link(0, 1, 2)],
+    }
+}
+
+/// Document 01, example A, right.
+pub fn example_a_right() -> Book {
+    Book {
+        recordings: vec![5, 5],
+        links: vec![link(0, 1, 1)],
+    }
 }
 
 /// The most links that a book of `cells` cells can have with so many different labels.

@@ -5,6 +5,37 @@ use super::outcome::Outcome;
 extern "C" {
     fn cuhnavel_check_book(bytes: *const u8, len: usize) -> u64;
     fn cuhnavel_check_sheet(bytes: *const u8, len: usize) -> u64;
+    fn cuhnavel_truth(
+        book: *const u8,
+        book_len: usize,
+        sheet: *const u8,
+        sheet_len: usize,
+        words: *mut u64,
+        words_len: usize,
+    ) -> u64;
+    fn cuhnavel_claim(
+        left: *const u8,
+        left_len: usize,
+        right: *const u8,
+        right_len: usize,
+        sheet: *const u8,
+        sheet_len: usize,
+        entry: usize,
+        left_cell: usize,
+        right_cell: usize,
+        words: *mut u64,
+        words_len: usize,
+    ) -> u64;
+    fn cuhnavel_row(map: *const u16, map_len: usize, m: usize, i: usize) -> u64;
+    fn cuhnavel_row_word(map: *const u16, map_len: usize, m: usize, i: usize) -> u64;
+    fn cuhnavel_pair(
+        map: *const u16,
+        map_len: usize,
+        place: usize,
+        sheet: *const u8,
+        sheet_len: usize,
+    ) -> u64;
+    fn cuhnavel_links(book: *const u8, book_len: usize, cell: usize) -> u64;
 }
 
 /// Check a book.
@@ -15,4 +46,67 @@ pub fn check_book(bytes: &[u8]) -> Outcome {
 /// Check a sheet.
 pub fn check_sheet(bytes: &[u8]) -> Outcome {
     Outcome::of_number(unsafe { cuhnavel_check_sheet(bytes.as_ptr(), bytes.len()) })
+}
+
+/// Truth.
+pub fn truth(book: &[u8], sheet: &[u8], words: &mut [u64]) -> Outcome {
+    Outcome::of_number(unsafe {
+        cuhnavel_truth(
+            book.as_ptr(),
+            book.len(),
+            sheet.as_ptr(),
+            sheet.len(),
+            words.as_mut_ptr(),
+            words.len(),
+        )
+    })
+}
+
+/// Claim: is this entry true at the left and false at the right cell?
+pub fn claim(
+    left: &[u8],
+    right: &[u8],
+    sheet: &[u8],
+    entry: usize,
+    left_cell: usize,
+    right_cell: usize,
+    words: &mut [u64],
+) -> Outcome {
+    Outcome::of_number(unsafe {
+        cuhnavel_claim(
+            left.as_ptr(),
+            left.len(),
+            right.as_ptr(),
+            right.len(),
+            sheet.as_ptr(),
+            sheet.len(),
+            entry,
+            left_cell,
+            right_cell,
+            words.as_mut_ptr(),
+            words.len(),
+        )
+    })
+}
+
+/// Row: the count.
+pub fn row(map: &[u16], m: usize, i: usize) -> Outcome {
+    Outcome::of_number(unsafe { cuhnavel_row(map.as_ptr(), map.len(), m, i) })
+}
+
+/// Row: the word.
+pub fn row_word(map: &[u16], m: usize, i: usize) -> u64 {
+    unsafe { cuhnavel_row_word(map.as_ptr(), map.len(), m, i) }
+}
+
+/// Pair.
+pub fn pair(map: &[u16], place: usize, sheet: &[u8]) -> Outcome {
+    Outcome::of_number(unsafe {
+        cuhnavel_pair(map.as_ptr(), map.len(), place, sheet.as_ptr(), sheet.len())
+    })
+}
+
+/// Links: the count, and where the part starts.
+pub fn links(book: &[u8], cell: usize) -> Outcome {
+    Outcome::of_number(unsafe { cuhnavel_links(book.as_ptr(), book.len(), cell) })
 }

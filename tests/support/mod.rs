@@ -4,9 +4,13 @@
 
 pub mod books;
 pub mod checks;
+pub mod counts;
+pub mod lent;
 pub mod library;
+pub mod meaning;
 pub mod outcome;
 pub mod random;
+pub mod refusals;
 pub mod sheets;
 
 /// Writes the number of all bytes into the length field, bytes 0 to 3, as far as there are such bytes.

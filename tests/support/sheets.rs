@@ -65,6 +65,31 @@ impl Entry {
         body
     }
 
+    /// The entry of this kind byte and what follows it, which a check accepts.
+    pub fn of_body(body: &[u8]) -> Entry {
+        let number = |place: usize| u16::from_be_bytes([body[place], body[place + 1]]);
+        let steps = |place: usize, count: u8| -> Vec<Step> {
+            (0..count as usize)
+                .map(|i| step(body[place + 3 * i], number(place + 3 * i + 1)))
+                .collect()
+        };
+        match body[0] {
+            0 => Entry::True,
+            1 => Entry::Not(number(1)),
+            2 => Entry::And(number(1), number(3)),
+            3 => Entry::Or(number(1), number(3)),
+            4 => Entry::Way(steps(2, body[1])),
+            kind => {
+                let w = steps(3, body[1]);
+                let v = steps(3 + 3 * w.len(), body[2]);
+                match kind {
+                    5 => Entry::Same(w, v),
+                    _ => Entry::Differ(w, v),
+                }
+            }
+        }
+    }
+
     /// The entry with its count byte.
     pub fn bytes(&self) -> Vec<u8> {
         counted(&self.body())
@@ -98,6 +123,26 @@ impl Sheet {
         let entries: Vec<Vec<u8>> = self.entries.iter().map(Entry::bytes).collect();
         sheet_bytes(self.bound, self.entries.len() as u16, &entries)
     }
+
+    /// The sheet that these bytes hold, which a check accepts.
+    pub fn of_bytes(bytes: &[u8]) -> Sheet {
+        let read = |&start: &usize| Entry::of_body(&bytes[start + 1..][..bytes[start] as usize]);
+        Sheet {
+            bound: bytes[5],
+            entries: entry_starts(bytes).iter().map(read).collect(),
+        }
+    }
+}
+
+/// Where each entry of an accepted sheet starts, by its count byte.
+pub fn entry_starts(bytes: &[u8]) -> Vec<usize> {
+    let mut starts = Vec::new();
+    let mut start = 8;
+    while start < bytes.len() {
+        starts.push(start);
+        start += 1 + bytes[start] as usize;
+    }
+    starts
 }
 
 /// The number of an entry before entry `number`, which is not 0: any, or the one just before.

@@ -1,8 +1,12 @@
-// The library for C callers (include/cuhnavel.h): bytes and numbers in, an outcome as one number out.
+// The library for C callers (include/cuhnavel.h): bytes, words, map places and numbers in, an outcome as one number out.
 ghost use mathlib.Core.Path.{_≡_};
 ghost use Rattle.outcome.specs.Outcome.{code};
 ghost use Rattle.book.specs.Book.{bookAnswer, bookOutcome};
+ghost use Rattle.book.specs.BookLinks.{linksAnswer, linksOutcome};
 ghost use Rattle.sheet.specs.Sheet.{sheetAnswer, sheetOutcome};
+ghost use Rattle.truth.specs.Truth.{IsTruthCode, IsClaimCode};
+ghost use Rattle.answers.specs.Row.{rowAnswer, rowOutcome, wordIn};
+ghost use Rattle.answers.specs.Pair.{pairAnswer, pairOutcome};
 
 // Check a book: its cells and links, or the first refusal of 1 to 7 that applies, of the only book.
 #[no_mangle]
@@ -18,4 +22,64 @@ pub extern "C" fn cuhnavel_check_sheet(bytes: &[u8]) -> u64
     ensures { λ r. ⌜ r ≡ code (sheetOutcome (sheetAnswer (now (bytes .entry)))) ⌝ }
 {
     sheet::check_code(bytes)
+}
+
+// Truth: for each entry of the sheet the word of the book's cells where it is true; the other words, and on a refusal all, are as
+// before. Refused: the refusal of the only book, of the sheet, or 24.
+#[no_mangle]
+pub extern "C" fn cuhnavel_truth(book: &[u8], sheet: &[u8], words: &mut [u64]) -> u64
+    ensures { λ r. ⌜ IsTruthCode (now (book .entry)) (now (sheet .entry)) (now (words .entry)) r (now (words .exit)) ⌝ }
+{
+    truth::truth_code(book, sheet, words)
+}
+
+// Claim: 1 where the entry is true at cell `cell` of the left book and false at cell `other` of the right, else 0; the words end as Truth of
+// the right book. Refused, the words being as before: the refusal of the left book, of the right, of the sheet, or 24, 25 or 26.
+#[no_mangle]
+pub extern "C" fn cuhnavel_claim(
+    left: &[u8],
+    right: &[u8],
+    sheet: &[u8],
+    entry: usize,
+    cell: usize,
+    other: usize,
+    words: &mut [u64],
+) -> u64
+    ensures { λ r. ⌜ IsClaimCode (now (left .entry)) (now (right .entry)) (now (sheet .entry)) entry cell other (now (words .entry)) r (now (words .exit)) ⌝ }
+{
+    truth::claim_code(left, right, sheet, entry, cell, other, words)
+}
+
+// Row: how many places of row i of the map, m places long, hold 0. Refused: 27 or 26.
+#[no_mangle]
+pub extern "C" fn cuhnavel_row(map: &[u16], m: usize, i: usize) -> u64
+    ensures { λ r. ⌜ r ≡ code (rowOutcome (rowAnswer (now (map .entry)) m i)) ⌝ }
+{
+    answers::row_code(map, m, i)
+}
+
+// Row's word: the set of the places of the row that hold 0; 0 where Row refuses.
+#[no_mangle]
+pub extern "C" fn cuhnavel_row_word(map: &[u16], m: usize, i: usize) -> u64
+    ensures { λ r. ⌜ r ≡ wordIn (rowAnswer (now (map .entry)) m i) ⌝ }
+{
+    answers::row_word(map, m, i)
+}
+
+// Pair: the number of the question that parts the pair and the byte where its entry starts, 0 and 0 where the pair is matched. Refused: the
+// sheet's refusal, or 26 or 25.
+#[no_mangle]
+pub extern "C" fn cuhnavel_pair(map: &[u16], place: usize, sheet: &[u8]) -> u64
+    ensures { λ r. ⌜ r ≡ code (pairOutcome (pairAnswer (now (map .entry)) place (now (sheet .entry)))) ⌝ }
+{
+    answers::pair_code(map, place, sheet)
+}
+
+// Links: how many links lead out of the cell and the byte of the book where they start, 0 and 0 where there are none. Refused: the refusal of
+// the only book, or 26.
+#[no_mangle]
+pub extern "C" fn cuhnavel_links(book: &[u8], cell: usize) -> u64
+    ensures { λ r. ⌜ r ≡ code (linksOutcome (linksAnswer (now (book .entry)) cell)) ⌝ }
+{
+    book::links_code(book, cell)
 }

@@ -1,0 +1,67 @@
+/* A C caller of Truth, Claim, Row, Pair and Links: prints each answer taken apart, and the words. */
+#include <inttypes.h>
+#include <stdio.h>
+
+#include "cuhnavel.h"
+
+static void print(const char *name, uint64_t answer)
+{
+    printf("%s: refusal %" PRIu32 " part %" PRIu32 " first %" PRIu32 " second %" PRIu32 "\n", name,
+           CUHNAVEL_REFUSAL(answer), CUHNAVEL_PART(answer), CUHNAVEL_FIRST(answer), CUHNAVEL_SECOND(answer));
+}
+
+static void print_words(const uint64_t *words, size_t count)
+{
+    printf("words:");
+    for (size_t k = 0; k < count; k++)
+        printf(" %" PRIu64, words[k]);
+    printf("\n");
+}
+
+int main(void)
+{
+    /* Document 01, example A: left, recordings 5, 5, 6, links (0,1,1), (0,1,2); right, recordings 5, 5, link (0,1,1). */
+    const uint8_t left[] = {
+        0, 0, 0, 26, 1, 3, 0, 2,
+        0, 0, 0, 5, 0, 0, 0, 5, 0, 0, 0, 6,
+        0, 1, 1, 0, 1, 2,
+    };
+    const uint8_t right[] = {
+        0, 0, 0, 19, 1, 2, 0, 1,
+        0, 0, 0, 5, 0, 0, 0, 5,
+        0, 1, 1,
+    };
+    /* Bound 1; entry 0: true; entry 1: "differ: stay, step 1"; entry 2: not entry 1. */
+    const uint8_t sheet[] = {
+        0, 0, 0, 21, 1, 1, 0, 3,
+        1, 0,
+        6, 6, 0, 1, 1, 0, 0,
+        3, 1, 0, 1,
+    };
+    /* A map of example A at bound 1, with entry 1 for each parted pair. */
+    const uint16_t map[] = {1, 1, 1, 0, 1, 0};
+    uint64_t words[4] = {9, 9, 9, 9};
+
+    print("truth, fewer words", cuhnavel_truth(left, sizeof left, sheet, sizeof sheet, words, 2));
+    print_words(words, 4);
+    print("truth", cuhnavel_truth(left, sizeof left, sheet, sizeof sheet, words, 4));
+    print_words(words, 4);
+    print("claim, entry 1 at 0 and 0",
+          cuhnavel_claim(left, sizeof left, right, sizeof right, sheet, sizeof sheet, 1, 0, 0, words, 4));
+    print_words(words, 4);
+    print("claim, entry 2 at 2 and 1",
+          cuhnavel_claim(left, sizeof left, right, sizeof right, sheet, sizeof sheet, 2, 2, 1, words, 4));
+    print("claim, right cell 2",
+          cuhnavel_claim(left, sizeof left, right, sizeof right, sheet, sizeof sheet, 1, 2, 2, words, 4));
+    for (size_t i = 0; i < 4; i++) {
+        print("row", cuhnavel_row(map, 6, 2, i));
+        printf("word: %" PRIu64 "\n", cuhnavel_row_word(map, 6, 2, i));
+    }
+    print("pair, place 0", cuhnavel_pair(map, 6, 0, sheet, sizeof sheet));
+    print("pair, place 3", cuhnavel_pair(map, 6, 3, sheet, sizeof sheet));
+    print("pair, place 6", cuhnavel_pair(map, 6, 6, sheet, sizeof sheet));
+    print("links of cell 0", cuhnavel_links(left, sizeof left, 0));
+    print("links of cell 2", cuhnavel_links(left, sizeof left, 2));
+    print("links of cell 3", cuhnavel_links(left, sizeof left, 3));
+    return 0;
+}

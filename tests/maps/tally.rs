@@ -1,0 +1,170 @@
+//! Compares the library with what is expected, call by call, and counts the answers.
+
+use crate::expected;
+use crate::support::counts::{Counts, OF_BOOK, OF_SHEET};
+use crate::support::hex;
+use crate::support::lent::Lent;
+use crate::support::library;
+use crate::support::outcome::{Outcome, CALL, LEFT_BOOK, SHEET};
+
+/// How many bytes of an input are printed.
+const PRINTED: usize = 16_384;
+
+pub struct Tally {
+    row: Counts,
+    pair: Counts,
+    links: Counts,
+    turn: usize,
+}
+
+impl Tally {
+    pub fn new() -> Tally {
+        Tally {
+            row: Counts::new("row"),
+            pair: Counts::new("pair"),
+            links: Counts::new("links"),
+            turn: 0,
+        }
+    }
+
+    /// The library's Row gives the count and the word that are expected.
+    pub fn row(&mut self, map: &[u16], m: usize, i: usize) {
+        let (expected, expected_word) = expected::row(map, m, i);
+        self.expect_row(map, m, i, expected, expected_word);
+    }
+
+    pub fn expect_row(&mut self, map: &[u16], m: usize, i: usize, expected: Outcome, word: u64) {
+        let mut lent = self.lent_map(map);
+        let answer = library::row(lent.lend(), m, i);
+        let answer_word = library::row_word(lent.lend(), m, i);
+
+        let call = Call {
+            name: "row",
+            numbers: format!("m {m}, i {i}"),
+            inputs: &[("map", &map_bytes(map))],
+        };
+        call.compare(answer, expected);
+        if answer_word != word {
+            call.fail(&format!(
+                "the word is {answer_word:#x}, expected is {word:#x}"
+            ));
+        }
+        call.unchanged(&lent, map);
+        self.row.count(answer, "counted");
+        self.turn += 1;
+    }
+
+    /// The library's Pair gives what is expected.
+    pub fn pair(&mut self, map: &[u16], place: usize, sheet: &[u8]) {
+        let expected = expected::pair(map, place, sheet);
+        self.expect_pair(map, place, sheet, expected);
+    }
+
+    pub fn expect_pair(&mut self, map: &[u16], place: usize, sheet: &[u8], expected: Outcome) {
+        let mut lent_map = self.lent_map(map);
+        let mut lent_sheet = self.lent_bytes(sheet);
+        let answer = library::pair(lent_map.lend(), place, lent_sheet.lend());
+
+        let call = Call {
+            name: "pair",
+            numbers: format!("place {place}"),
+            inputs: &[("map", &map_bytes(map)), ("sheet", sheet)],
+        };
+        call.compare(answer, expected);
+        call.unchanged(&lent_map, map);
+        call.unchanged(&lent_sheet, sheet);
+        let name = match answer.first {
+            0 => "matched",
+            _ => "parted",
+        };
+        self.pair.count(answer, name);
+        self.turn += 1;
+    }
+
+    /// The library's Links gives what is expected, and the part of the book that it names is the one expected.
+    pub fn links(&mut self, book: &[u8], cell: usize) {
+        let (expected, expected_part) = expected::links(book, cell);
+        self.expect_links(book, cell, expected, &expected_part);
+    }
+
+    pub fn expect_links(&mut self, book: &[u8], cell: usize, expected: Outcome, links: &[u8]) {
+        let mut lent = self.lent_bytes(book);
+        let answer = library::links(lent.lend(), cell);
+
+        let call = Call {
+            name: "links",
+            numbers: format!("cell {cell}"),
+            inputs: &[("book", book)],
+        };
+        call.compare(answer, expected);
+        let start = answer.second as usize;
+        if lent.values().get(start..start + 3 * answer.first as usize) != Some(links) {
+            call.fail("the part is not that of the cell's links");
+        }
+        call.unchanged(&lent, book);
+        let name = match answer.first {
+            0 => "no links",
+            _ => "links",
+        };
+        self.links.count(answer, name);
+        self.turn += 1;
+    }
+
+    fn lent_map(&self, map: &[u16]) -> Lent<u16> {
+        Lent::new(map, self.turn, [0, 1, u16::MAX][self.turn % 3])
+    }
+
+    fn lent_bytes(&self, bytes: &[u8]) -> Lent<u8> {
+        Lent::new(bytes, self.turn + 3, [0, 1, u8::MAX][self.turn % 3])
+    }
+
+    /// Prints the counts, and gives the number of cases.
+    pub fn report(&self) -> usize {
+        self.row.report(&["counted"], &[(CALL, &[26, 27])])
+            + self.pair.report(
+                &["matched", "parted"],
+                &[(SHEET, &OF_SHEET), (CALL, &[25, 26])],
+            )
+            + self.links.report(
+                &["links", "no links"],
+                &[(LEFT_BOOK, &OF_BOOK), (CALL, &[26])],
+            )
+    }
+}
+
+fn map_bytes(map: &[u16]) -> Vec<u8> {
+    map.iter().flat_map(|place| place.to_be_bytes()).collect()
+}
+
+/// A call, to be printed if it went wrong.
+struct Call<'a> {
+    name: &'static str,
+    numbers: String,
+    inputs: &'a [(&'static str, &'a [u8])],
+}
+
+impl Call<'_> {
+    fn compare(&self, answer: Outcome, expected: Outcome) {
+        if answer != expected {
+            self.fail(&format!(
+                "the library gives {answer:?}, expected is {expected:?}"
+            ));
+        }
+    }
+
+    fn unchanged<T: Copy + PartialEq>(&self, lent: &Lent<T>, values: &[T]) {
+        if lent.values() != values || !lent.alone() {
+            self.fail("what was lent, or what is beside it, was changed");
+        }
+    }
+
+    fn fail(&self, what: &str) -> ! {
+        println!("{}, {}: {what}", self.name, self.numbers);
+        for (name, bytes) in self.inputs {
+            let cut = if bytes.len() > PRINTED { "..." } else { "" };
+            let printed = hex(&bytes[..bytes.len().min(PRINTED)]);
+            println!("{name}, {} bytes: {printed}{cut}", bytes.len());
+        }
+        std::process::exit(1);
+    }
+}

@@ -1,0 +1,332 @@
+//! Books and sheets that are accepted.
+
+use crate::expected::{truth_words, Asked};
+use crate::support::books::{example_a_left, example_a_right, link, random_book, Book};
+use crate::support::meaning::{sheet_cells, spelled_out};
+use crate::support::outcome::accepted;
+use crate::support::random::Random;
+use crate::support::sheets::{random_sheet, step, Entry, Sheet, Step};
+use crate::tally::Tally;
+use crate::telling::{any_book, telling_sheet, Naming, Plan};
+
+const MOST_ENTRIES: usize = 16_385;
+const MOST_STEPS: usize = 60;
+
+pub fn all(tally: &mut Tally) {
+    let random = &mut Random::new(3);
+    by_hand(tally);
+    spelled(tally, random);
+    small(tally, random);
+    sizes(tally, random);
+    large(tally, random);
+    each_step(tally, random);
+    deep(tally, random);
+    most_entries(tally, random);
+}
+
+/// Document 01's example A: words and claims found by hand.
+fn by_hand(tally: &mut Tally) {
+    let one = |test| vec![step(1, test)];
+    let entries = [
+        (Entry::True, 7, 3),
+        (Entry::Differ(vec![], one(0)), 1, 0),
+        (Entry::Not(1), 6, 3),
+        (Entry::Way(one(0)), 1, 1),
+        (Entry::Way(one(3)), 0, 0),
+        (Entry::Same(vec![], one(0)), 1, 1),
+        (Entry::And(1, 5), 1, 0),
+        (Entry::Or(2, 3), 7, 3),
+        (Entry::Differ(vec![], vec![]), 0, 0),
+        (Entry::Same(vec![], vec![]), 7, 3),
+        (Entry::Way(vec![]), 7, 3),
+        (Entry::Differ(one(0), one(0)), 1, 0),
+        (Entry::Same(one(0), one(0)), 1, 1),
+        (Entry::Not(12), 6, 2),
+        (Entry::Way(one(2)), 1, 1),           // true at the cells reached
+        (Entry::Way(one(1)), 0, 0),           // true at the start only
+        (Entry::Way(vec![step(2, 0)]), 0, 0), // a label of no link
+    ];
+    let (left, right) = (example_a_left().bytes(), example_a_right().bytes());
+    let sheet = Sheet {
+        bound: 1,
+        entries: entries.iter().map(|(entry, _, _)| entry.clone()).collect(),
+    }
+    .bytes();
+    let of_left: Vec<u64> = entries.iter().map(|&(_, word, _)| word).collect();
+    let of_right: Vec<u64> = entries.iter().map(|&(_, _, word)| word).collect();
+    assert_eq!(truth_words(&left, &sheet), of_left);
+    assert_eq!(truth_words(&right, &sheet), of_right);
+
+    let before = vec![u64::MAX; entries.len()];
+    tally.expect_truth(&left, &sheet, &before, accepted(0, 0), &of_left);
+    tally.expect_truth(&right, &sheet, &before, accepted(0, 0), &of_right);
+    for entry in 0..entries.len() {
+        for left_cell in 0..3 {
+            for right_cell in 0..2 {
+                let asked = Asked {
+                    left: &left,
+                    right: &right,
+                    sheet: &sheet,
+                    entry,
+                    left_cell,
+                    right_cell,
+                };
+                let yes =
+                    of_left[entry] >> left_cell & 1 == 1 && of_right[entry] >> right_cell & 1 == 0;
+                tally.expect_claim(asked, &before, accepted(yes as u32, 0), &of_right);
+            }
+        }
+    }
+    // Document 01: "differ: stay, step 1" parts (0,0), and only from left to right.
+    let asked = Asked {
+        left: &left,
+        right: &right,
+        sheet: &sheet,
+        entry: 1,
+        left_cell: 0,
+        right_cell: 0,
+    };
+    tally.expect_claim(asked, &before, accepted(1, 0), &of_right);
+    let turned = Asked {
+        left: &right,
+        right: &left,
+        ..asked
+    };
+    tally.expect_claim(turned, &before, accepted(0, 0), &of_left);
+}
+
+/// Words to be lent: q of them and some more, with any values.
+fn any_words(random: &mut Random, q: usize) -> Vec<u64> {
+    let more = random.pick(&[0, 0, 1, 2, 5]);
+    let alike = random.pick(&[0, u64::MAX]);
+    let any = random.one_in(2);
+    (0..q + more)
+        .map(|_| if any { random.next() } else { alike })
+        .collect()
+}
+
+/// Truth of both books, and so many claims: some that are yes, if there are such.
+fn ask(
+    tally: &mut Tally,
+    random: &mut Random,
+    left: &Book,
+    right: &Book,
+    sheet: &Sheet,
+    claims: usize,
+) {
+    let q = sheet.entries.len();
+    let (cells, right_cells) = (left.cells(), right.cells());
+    let (left, right) = (left.bytes(), right.bytes());
+    let sheet = sheet.bytes();
+    let of_left = tally.truth(&left, &sheet, &any_words(random, q));
+    let of_right = tally.truth(&right, &sheet, &any_words(random, q));
+    for turn in 0..claims {
+        let mut draw = || Asked {
+            left: &left,
+            right: &right,
+            sheet: &sheet,
+            entry: random.below(q),
+            left_cell: random.below(cells),
+            right_cell: random.below(right_cells),
+        };
+        let mut asked = draw();
+        let yes = |asked: &Asked| {
+            of_left[asked.entry] >> asked.left_cell & 1 == 1
+                && of_right[asked.entry] >> asked.right_cell & 1 == 0
+        };
+        for _ in 0..40 {
+            if turn % 2 == 0 && !yes(&asked) {
+                asked = draw();
+            }
+        }
+        tally.claim(asked, &any_words(random, q));
+    }
+}
+
+/// Another book to ask: the same, or one of any number of cells.
+fn other(random: &mut Random, book: &Book, cells: usize) -> Book {
+    if random.one_in(4) {
+        return book.clone();
+    }
+    let mut other = match random.below(3) {
+        // One link or recording less or other: much alike.
+        0 => book.clone(),
+        _ => {
+            let cells = random.between(1, cells);
+            any_book(random, cells)
+        }
+    };
+    if random.one_in(2) && !other.links.is_empty() {
+        let place = random.below(other.links.len());
+        other.links.remove(place);
+    }
+    let place = random.below(other.cells());
+    other.recordings[place] = random.pick(&other.recordings.clone());
+    other
+}
+
+/// Sheets so small that each question can be spelled out.
+fn spelled(tally: &mut Tally, random: &mut Random) {
+    for _ in 0..300 {
+        let cells = random.between(1, 4);
+        let book = any_book(random, cells);
+        let plan = Plan {
+            bound: random.between(0, 3) as u8,
+            entries: random.between(1, 6),
+            longest: 3,
+            naming: Naming::Any,
+            draws: 4,
+        };
+        let sheet = telling_sheet(random, &book, plan);
+        for (number, cells) in sheet_cells(&book, &sheet).iter().enumerate() {
+            assert_eq!(*cells, spelled_out(&book, &sheet, number as u16));
+        }
+        assert_eq!(Book::of_bytes(&book.bytes()), book);
+        assert_eq!(Sheet::of_bytes(&sheet.bytes()), sheet);
+        ask(tally, random, &book, &book, &sheet, 2);
+    }
+}
+
+/// Thousands of small books and sheets.
+fn small(tally: &mut Tally, random: &mut Random) {
+    for round in 0..4_000 {
+        let cells = random.between(1, 7);
+        let book = any_book(random, cells);
+        let plan = Plan {
+            bound: random.between(0, 4) as u8,
+            entries: random.between(1, 24),
+            longest: random.pick(&[1, 2, 4, 4, 6]),
+            naming: random.pick(&[Naming::Any, Naming::Any, Naming::Last, Naming::First]),
+            draws: 4,
+        };
+        let sheet = match round % 8 {
+            0 => random_sheet(random, plan.bound, plan.entries, plan.longest, 3),
+            _ => telling_sheet(random, &book, plan),
+        };
+        let other = other(random, &book, 7);
+        ask(tally, random, &book, &other, &sheet, 3);
+    }
+}
+
+/// Every number of cells at every bound.
+fn sizes(tally: &mut Tally, random: &mut Random) {
+    for cells in 1..=64 {
+        for bound in 0..=4 {
+            let book = any_book(random, cells);
+            let plan = Plan {
+                bound,
+                entries: random.between(6, 20),
+                longest: random.pick(&[2, 4, 8]),
+                naming: Naming::Any,
+                draws: 2,
+            };
+            let sheet = telling_sheet(random, &book, plan);
+            let other = other(random, &book, 64);
+            ask(tally, random, &book, &other, &sheet, 1);
+        }
+    }
+}
+
+/// Books of the most cells and about the most links, and the longest ways.
+fn large(tally: &mut Tally, random: &mut Random) {
+    for round in 0..30 {
+        let cells = if round % 2 == 0 {
+            64
+        } else {
+            random.between(56, 64)
+        };
+        let mut book = any_book(random, cells);
+        while book.links.len() < random.pick(&[0, 100, 500, 512]) {
+            book = any_book(random, cells);
+        }
+        let plan = Plan {
+            bound: random.pick(&[4, 4, 3]),
+            entries: 24,
+            longest: MOST_STEPS,
+            naming: Naming::Any,
+            draws: 3,
+        };
+        let sheet = telling_sheet(random, &book, plan);
+        let other = other(random, &book, 64);
+        ask(tally, random, &book, &other, &sheet, 1);
+    }
+}
+
+/// A chain of 64 cells, and ways of 60 steps of which one decides: by its test, or by its label.
+fn each_step(tally: &mut Tally, random: &mut Random) {
+    let chain = |label: fn(u8) -> u8| Book {
+        recordings: (0..64).collect(),
+        links: (0..63).map(|x| link(x, label(x), x + 1)).collect(),
+    };
+    let mut entries = vec![Entry::True];
+    // Entry k: there is a way of k steps, true at the cells up to 63 - k.
+    for k in 1..=MOST_STEPS {
+        entries.push(Entry::Way(vec![step(7, 0); k]));
+    }
+    // Entry 62 + 2 × i: true at cell 63 - i only.
+    for i in 0..MOST_STEPS as u16 {
+        entries.push(Entry::Not(i + 1));
+        entries.push(Entry::And(entries.len() as u16 - 1, i));
+    }
+    for place in 0..MOST_STEPS {
+        // Of the cells 0 to 3, which have such a way, one passes its test.
+        let cell = (place + 1 + random.below(4)).max(4);
+        let mut steps = vec![step(7, 0); MOST_STEPS];
+        steps[place].test = 62 + 2 * (63 - cell as u16);
+        entries.push(Entry::Way(steps));
+    }
+    let book = chain(|_| 7);
+    let sheet = Sheet { bound: 0, entries };
+    ask(tally, random, &book, &chain(|x| 7 - x % 2), &sheet, 1);
+
+    let mut entries = vec![Entry::True];
+    for place in 0..MOST_STEPS {
+        let start = random.below(4) as u8;
+        let steps = (start..).map(|x| step(200 - x, 0));
+        let mut steps: Vec<Step> = steps.take(MOST_STEPS).collect();
+        entries.push(Entry::Way(steps.clone()));
+        steps[place].label ^= 1;
+        entries.push(Entry::Way(steps));
+    }
+    let sheet = Sheet { bound: 0, entries };
+    ask(tally, random, &chain(|x| 200 - x), &book, &sheet, 1);
+}
+
+/// Questions that name one before, which names one before, and so on for thousands of entries.
+fn deep(tally: &mut Tally, random: &mut Random) {
+    for round in 0..30 {
+        let cells = random.between(2, 9);
+        let book = any_book(random, cells);
+        let plan = Plan {
+            bound: 4,
+            entries: if round < 3 {
+                4_000
+            } else {
+                random.between(100, 400)
+            },
+            longest: 3,
+            naming: Naming::Last,
+            draws: 6,
+        };
+        let sheet = telling_sheet(random, &book, plan);
+        let other = other(random, &book, 9);
+        ask(tally, random, &book, &other, &sheet, 2);
+    }
+}
+
+/// The most entries.
+fn most_entries(tally: &mut Tally, random: &mut Random) {
+    for (cells, longest, draws) in [(5, 4, 4), (16, 1, 2)] {
+        let book = random_book(random, cells, 2 * cells, 2, 3);
+        let plan = Plan {
+            bound: 4,
+            entries: MOST_ENTRIES,
+            longest,
+            naming: Naming::Any,
+            draws,
+        };
+        let sheet = telling_sheet(random, &book, plan);
+        let other = other(random, &book, cells);
+        ask(tally, random, &book, &other, &sheet, 1);
+    }
+}

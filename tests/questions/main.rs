@@ -1,0 +1,19 @@
+//! Truth and Claim, compared with a naive evaluator written from source 000, figure 3.
+
+mod expected;
+mod inputs;
+mod refused_inputs;
+#[path = "../support/mod.rs"]
+mod support;
+mod tally;
+mod telling;
+
+use tally::Tally;
+
+fn main() {
+    let mut tally = Tally::new();
+    inputs::all(&mut tally);
+    refused_inputs::all(&mut tally);
+    let cases = tally.report();
+    println!("questions: the library and the naive evaluator agree in {cases} cases");
+}

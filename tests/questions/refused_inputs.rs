@@ -1,0 +1,185 @@
+//! Calls that are refused: each refusal of each part, together with every later one, and damaged books and sheets.
+
+use crate::expected::Asked;
+use crate::support::checks::check_sheet;
+use crate::support::counts::{OF_BOOK, OF_SHEET};
+use crate::support::random::Random;
+use crate::support::refusals::{book_refused, sheet_refused};
+use crate::tally::Tally;
+
+pub fn all(tally: &mut Tally) {
+    let random = &mut Random::new(4);
+    truth(tally, random);
+    claim(tally, random);
+    numbers(tally, random);
+    damaged(tally, random);
+}
+
+/// 0 and the refusals.
+fn or_none(refusals: &[u8]) -> Vec<u8> {
+    [&[0], refusals].concat()
+}
+
+/// The field for the number of entries, as far as there is one.
+fn entries(sheet: &[u8]) -> usize {
+    match sheet {
+        [_, _, _, _, _, _, high, low, ..] => u16::from_be_bytes([*high, *low]) as usize,
+        _ => 0,
+    }
+}
+
+/// Words with any values: fewer than the sheet has entries, or as many or more.
+fn words(random: &mut Random, sheet: &[u8], few: bool) -> Vec<u64> {
+    let q = entries(sheet);
+    let count = match few {
+        true if random.one_in(2) => q.saturating_sub(1),
+        true => random.below(q.max(1)),
+        false => q.min(100) + random.below(3),
+    };
+    (0..count).map(|_| random.next()).collect()
+}
+
+/// Every refusal of the book with every refusal of the sheet, with and without 24.
+fn truth(tally: &mut Tally, random: &mut Random) {
+    for of_book in or_none(&OF_BOOK) {
+        for of_sheet in or_none(&OF_SHEET) {
+            for few in [false, true] {
+                for _ in 0..12 {
+                    let book = book_refused(random, of_book);
+                    let sheet = sheet_refused(random, of_sheet);
+                    let words = words(random, &sheet, few);
+                    tally.truth(&book, &sheet, &words);
+                }
+            }
+        }
+    }
+}
+
+/// A number just beyond a count or far beyond: also one whose low bits are in range.
+fn beyond(random: &mut Random, count: usize) -> usize {
+    let low = random.below(count);
+    random
+        .pick(&[
+            count,
+            count + 1,
+            64,
+            255,
+            256 + low,
+            65_535,
+            65_536 + low,
+            (1 << 32) + low,
+            (1 << 63) + low,
+            usize::MAX,
+            usize::MAX - 63 + low % 64,
+        ])
+        .max(count)
+}
+
+/// Every refusal of each book with every refusal of the sheet, with and without each of 24, 25 and 26.
+fn claim(tally: &mut Tally, random: &mut Random) {
+    for of_left in or_none(&OF_BOOK) {
+        for of_right in or_none(&OF_BOOK) {
+            for of_sheet in or_none(&OF_SHEET) {
+                let accepted = of_left == 0 && of_right == 0 && of_sheet == 0;
+                for round in 0..if accepted { 64 * 16 } else { 16 } {
+                    let left = book_refused(random, of_left);
+                    let right = book_refused(random, of_right);
+                    let sheet = sheet_refused(random, of_sheet);
+                    let [few, far_entry, far_left, far_right] =
+                        [1, 2, 4, 8].map(|bit| round & bit != 0);
+                    let words = words(random, &sheet, few);
+                    let mut number = |count: Option<&u8>, far: bool| {
+                        let count = (*count.unwrap_or(&1)).clamp(1, 64) as usize;
+                        match far {
+                            true => beyond(random, count),
+                            false => random.below(count),
+                        }
+                    };
+                    let asked = Asked {
+                        left: &left,
+                        right: &right,
+                        sheet: &sheet,
+                        entry: number(sheet.get(7), far_entry),
+                        left_cell: number(left.get(5), far_left),
+                        right_cell: number(right.get(5), far_right),
+                    };
+                    tally.claim(asked, &words);
+                }
+            }
+        }
+    }
+}
+
+/// Entries and cells at their limits, in books of different sizes: a cell is judged in its own book.
+fn numbers(tally: &mut Tally, random: &mut Random) {
+    for _ in 0..400 {
+        let left = book_refused(random, 0);
+        let right = book_refused(random, 0);
+        let sheet = sheet_refused(random, 0);
+        let words = words(random, &sheet, false);
+        let (n, m) = (left[5] as usize, right[5] as usize);
+        let q = check_sheet(&sheet).first as usize;
+        let asked = Asked {
+            left: &left,
+            right: &right,
+            sheet: &sheet,
+            entry: random.below(q),
+            left_cell: random.below(n),
+            right_cell: random.below(m),
+        };
+        for entry in [0, q - 1, q, usize::MAX] {
+            tally.claim(Asked { entry, ..asked }, &words);
+        }
+        for left_cell in [0, n - 1, n, m - 1, m, usize::MAX] {
+            tally.claim(Asked { left_cell, ..asked }, &words);
+        }
+        for right_cell in [0, m - 1, m, n - 1, n, usize::MAX] {
+            tally.claim(
+                Asked {
+                    right_cell,
+                    ..asked
+                },
+                &words,
+            );
+        }
+    }
+}
+
+/// Books and sheets with one to three bytes changed, which may still be accepted.
+fn damaged(tally: &mut Tally, random: &mut Random) {
+    for _ in 0..6_000 {
+        let mut left = book_refused(random, 0);
+        let mut right = book_refused(random, 0);
+        let mut sheet = sheet_refused(random, 0);
+        for _ in 0..random.between(1, 3) {
+            let bytes = match random.below(4) {
+                0 => &mut left,
+                1 => &mut right,
+                _ => &mut sheet,
+            };
+            // Mostly behind the header.
+            let place = random.pick(&[0, 8, 8, 8]);
+            let place = place + random.below(bytes.len() - place);
+            let value = random.byte();
+            bytes[place] = random.pick(&[
+                value,
+                0,
+                255,
+                bytes[place].wrapping_add(1),
+                bytes[place].wrapping_sub(1),
+            ]);
+        }
+        let few = random.one_in(8);
+        let words = words(random, &sheet, few);
+        tally.truth(&left, &sheet, &words);
+        let asked = Asked {
+            left: &left,
+            right: &right,
+            sheet: &sheet,
+            entry: random.below(4),
+            left_cell: random.below(3),
+            right_cell: random.below(3),
+        };
+        tally.claim(asked, &words);
+    }
+}

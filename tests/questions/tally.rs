@@ -1,0 +1,232 @@
+//! Compares the library with what is expected, call by call, and counts the answers.
+
+use crate::expected::{self, Asked};
+use crate::support::counts::{Counts, OF_BOOK, OF_SHEET};
+use crate::support::hex;
+use crate::support::lent::Lent;
+use crate::support::library;
+use crate::support::outcome::{Outcome, CALL, LEFT_BOOK, RIGHT_BOOK, SHEET};
+
+/// How many bytes of an input are printed.
+const PRINTED: usize = 16_384;
+
+pub struct Tally {
+    truth: Counts,
+    claim: Counts,
+    turn: usize,
+    /// Words of Truth: of no cell, of every cell, and of others.
+    none: usize,
+    every: usize,
+    some: usize,
+}
+
+impl Tally {
+    pub fn new() -> Tally {
+        Tally {
+            truth: Counts::new("truth"),
+            claim: Counts::new("claim"),
+            turn: 0,
+            none: 0,
+            every: 0,
+            some: 0,
+        }
+    }
+
+    /// The library and the naive evaluator agree on Truth, and the library changes nothing else. Gives the words.
+    pub fn truth(&mut self, book: &[u8], sheet: &[u8], words: &[u64]) -> Vec<u64> {
+        let (expected, expected_words) = expected::truth(book, sheet, words);
+        self.expect_truth(book, sheet, words, expected, &expected_words);
+        if expected.refusal == 0 {
+            let every = u64::MAX >> (64 - book[5]);
+            let q = u16::from_be_bytes([sheet[6], sheet[7]]) as usize;
+            for &word in &expected_words[..q] {
+                *match word {
+                    0 => &mut self.none,
+                    _ if word == every => &mut self.every,
+                    _ => &mut self.some,
+                } += 1;
+            }
+        }
+        expected_words
+    }
+
+    /// The library gives this answer on Truth and leaves these words.
+    pub fn expect_truth(
+        &mut self,
+        book: &[u8],
+        sheet: &[u8],
+        words: &[u64],
+        expected: Outcome,
+        expected_words: &[u64],
+    ) {
+        let around = self.around();
+        let mut lent_book = Lent::new(book, self.turn, around as u8);
+        let mut lent_sheet = Lent::new(sheet, self.turn + 3, around as u8);
+        let mut lent_words = Lent::new(words, self.turn, around);
+
+        let answer = library::truth(lent_book.lend(), lent_sheet.lend(), lent_words.lend());
+
+        let call = Call {
+            name: "truth",
+            case: self.truth.cases(),
+            bytes: &[("book", book), ("sheet", sheet)],
+            words,
+            numbers: String::new(),
+        };
+        call.compare(answer, expected, &lent_words, expected_words);
+        call.unchanged(&[(&lent_book, book), (&lent_sheet, sheet)]);
+        self.truth.count(answer, "words written");
+        self.turn += 1;
+    }
+
+    /// The library and the naive evaluator agree on Claim, and the library changes nothing else.
+    pub fn claim(&mut self, asked: Asked, words: &[u64]) {
+        let (expected, expected_words) = expected::claim(asked, words);
+        self.expect_claim(asked, words, expected, &expected_words);
+    }
+
+    /// The library gives this answer on Claim and leaves these words.
+    pub fn expect_claim(
+        &mut self,
+        asked: Asked,
+        words: &[u64],
+        expected: Outcome,
+        expected_words: &[u64],
+    ) {
+        let around = self.around();
+        let mut lent_left = Lent::new(asked.left, self.turn, around as u8);
+        let mut lent_right = Lent::new(asked.right, self.turn + 5, around as u8);
+        let mut lent_sheet = Lent::new(asked.sheet, self.turn + 3, around as u8);
+        let mut lent_words = Lent::new(words, self.turn, around);
+
+        // The two books may be the same: by turns the same bytes are lent twice where they are alike.
+        let left = &*lent_left.lend();
+        let right = match asked.left == asked.right && self.turn % 2 == 0 {
+            true => left,
+            false => lent_right.lend(),
+        };
+        let answer = library::claim(
+            left,
+            right,
+            lent_sheet.lend(),
+            asked.entry,
+            asked.left_cell,
+            asked.right_cell,
+            lent_words.lend(),
+        );
+
+        let call = Call {
+            name: "claim",
+            case: self.claim.cases(),
+            bytes: &[
+                ("left book", asked.left),
+                ("right book", asked.right),
+                ("sheet", asked.sheet),
+            ],
+            words,
+            numbers: format!(
+                ", entry {}, left cell {}, right cell {}",
+                asked.entry, asked.left_cell, asked.right_cell
+            ),
+        };
+        call.compare(answer, expected, &lent_words, expected_words);
+        call.unchanged(&[
+            (&lent_left, asked.left),
+            (&lent_right, asked.right),
+            (&lent_sheet, asked.sheet),
+        ]);
+        self.claim
+            .count(answer, if answer.first == 1 { "yes" } else { "no" });
+        self.turn += 1;
+    }
+
+    fn around(&self) -> u64 {
+        [0, 1, u64::MAX][self.turn % 3]
+    }
+
+    /// Prints the counts, and gives the number of cases.
+    pub fn report(&self) -> usize {
+        let truth = self.truth.report(
+            &["words written"],
+            &[(LEFT_BOOK, &OF_BOOK), (SHEET, &OF_SHEET), (CALL, &[24])],
+        );
+        println!("  words written, true at no cell     {:>9}", self.none);
+        println!("  words written, true at every cell  {:>9}", self.every);
+        println!("  words written, true at some cells  {:>9}", self.some);
+        if self.some < self.none.max(self.every) / 2 {
+            println!("too few questions tell cells apart");
+            std::process::exit(1);
+        }
+        let claim = self.claim.report(
+            &["yes", "no"],
+            &[
+                (LEFT_BOOK, &OF_BOOK),
+                (RIGHT_BOOK, &OF_BOOK),
+                (SHEET, &OF_SHEET),
+                (CALL, &[24, 25, 26]),
+            ],
+        );
+        truth + claim
+    }
+}
+
+/// A call, to be printed if it went wrong.
+struct Call<'a> {
+    name: &'static str,
+    case: usize,
+    bytes: &'a [(&'static str, &'a [u8])],
+    words: &'a [u64],
+    numbers: String,
+}
+
+impl Call<'_> {
+    fn compare(
+        &self,
+        answer: Outcome,
+        expected: Outcome,
+        words: &Lent<u64>,
+        expected_words: &[u64],
+    ) {
+        if answer != expected {
+            self.fail(&format!(
+                "the library gives {answer:?}, expected is {expected:?}"
+            ));
+        }
+        for (k, (word, expected)) in words.values().iter().zip(expected_words).enumerate() {
+            if word != expected {
+                self.fail(&format!(
+                    "{answer:?}: word {k} is {word:#x}, expected is {expected:#x}"
+                ));
+            }
+        }
+        if !words.alone() {
+            self.fail("words beside the lent ones were changed");
+        }
+    }
+
+    fn unchanged(&self, lent: &[(&Lent<u8>, &[u8])]) {
+        for (lent, bytes) in lent {
+            if lent.values() != *bytes || !lent.alone() {
+                self.fail("lent bytes, or bytes beside them, were changed");
+            }
+        }
+    }
+
+    fn fail(&self, what: &str) -> ! {
+        let Call { name, case, .. } = self;
+        let (words, numbers) = (self.words.len(), &self.numbers);
+        println!("{name}, case {case}, {words} words{numbers}: {what}");
+        for (name, bytes) in self.bytes {
+            print_hex(name, bytes);
+        }
+        let words: Vec<u8> = self.words.iter().flat_map(|w| w.to_be_bytes()).collect();
+        print_hex("words before", &words);
+        std::process::exit(1);
+    }
+}
+
+fn print_hex(name: &str, bytes: &[u8]) {
+    let cut = if bytes.len() > PRINTED { "..." } else { "" };
+    let printed = hex(&bytes[..bytes.len().min(PRINTED)]);
+    println!("{name}, {} bytes: {printed}{cut}", bytes.len());
+}

@@ -1,0 +1,119 @@
+//! Books and sheets that a check refuses, for each number; 0 for accepted ones.
+
+use super::books::{random_book, Book};
+use super::checks::{check_book, check_sheet};
+use super::outcome::LEFT_BOOK;
+use super::random::Random;
+use super::set_length;
+use super::sheets::{counted, random_sheet, sheet_bytes, Entry};
+
+/// A small book with this answer: 0 or 1 to 7.
+pub fn book_refused(random: &mut Random, refusal: u8) -> Vec<u8> {
+    let cells = random.between(2, 6);
+    let links = random.between(2, 8);
+    let book = random_book(random, cells, links, 3, 3);
+    let mut bytes = book.bytes();
+    let at_link = 8 + 4 * cells + 3 * random.below(links);
+    match refusal {
+        0 => {}
+        1 => bytes.truncate(random.below(8)),
+        2 => bytes[random.pick(&[0, 1, 2, 3])] ^= 1 << random.below(8),
+        3 => bytes[4] = random.pick(&[0, 2, 3, 255]),
+        4 => match random.below(3) {
+            0 => bytes[5] = 0,
+            1 => bytes[5] = random.pick(&[65, 128, 255]),
+            _ => bytes[6] = random.between(2, 255) as u8,
+        },
+        5 => match random.below(3) {
+            0 => bytes[5] += 1,
+            1 => bytes[7] -= 1,
+            _ => {
+                bytes.push(0);
+                set_length(&mut bytes);
+            }
+        },
+        6 => bytes[at_link + random.pick(&[0, 2])] = random.pick(&[cells as u8, 64, 255]),
+        7 => {
+            let mut links = book.links.clone();
+            let place = random.below(links.len() - 1);
+            match random.below(2) {
+                0 => links.swap(place, place + 1),
+                _ => links[place + 1] = links[place],
+            }
+            let recordings = book.recordings;
+            bytes = Book { recordings, links }.bytes();
+        }
+        _ => panic!("a book is not refused by {refusal}"),
+    }
+    assert_eq!(check_book(&bytes, LEFT_BOOK).refusal, refusal);
+    bytes
+}
+
+/// A small sheet with this answer: 0, 1 to 3 or 8 to 14.
+pub fn sheet_refused(random: &mut Random, refusal: u8) -> Vec<u8> {
+    let bound = random.between(0, 4) as u8;
+    let q = random.between(2, 8);
+    let sheet = random_sheet(random, bound, q, 5, 3);
+    let mut entries: Vec<Vec<u8>> = sheet.entries.iter().map(Entry::bytes).collect();
+    let number = random.between(1, q - 1);
+    let late = random.pick(&[number as u8, number as u8 + 1, 255]);
+    match refusal {
+        9 => match random.below(3) {
+            0 => entries[number][0] = 0,
+            1 => entries[q - 1][0] += random.between(1, 60) as u8,
+            _ => entries.push(vec![random.byte()]),
+        },
+        10 => entries[number][1] = random.between(7, 255) as u8,
+        11 => {
+            let most = bound + 1;
+            entries[number] = counted(random.pick(&[
+                &[4, 61][..],
+                &[4, 255, 0, 0, 0],
+                &[5, most, 0],
+                &[6, 0, most],
+            ]));
+        }
+        12 => {
+            let bodies = [
+                &[1, 0, late][..],
+                &[2, 0, 0, 0, late],
+                &[3, 0, late, 0, 0],
+                &[4, 2, 1, 0, 0, 1, 0, late],
+                &[5, 1, 1, 1, 0, 0, 1, 0, late],
+                &[6, 1, 0, 1, 0, late],
+            ];
+            // Bound 0 has no steps in a same or differ.
+            let bodies = if bound == 0 { &bodies[..4] } else { &bodies };
+            entries[number] = counted(random.pick(bodies));
+        }
+        13 => entries[0] = counted(random.pick(&[&[1, 0, 0][..], &[4, 0], &[5, 0, 0], &[6]])),
+        14 => {
+            entries[number] = counted(random.pick(&[
+                &[0, 0][..],
+                &[1, 0],
+                &[2, 0, 0, 0],
+                &[3, 0, 0, 0, 0, 0],
+                &[4],
+                &[4, 1, 0, 0],
+                &[5, 0],
+                &[6, 0, 0, 0],
+            ]));
+        }
+        _ => {}
+    }
+    let mut bytes = sheet_bytes(bound, q as u16, &entries);
+    match refusal {
+        0 | 9..=14 => {}
+        1 => bytes.truncate(random.below(8)),
+        2 => bytes[random.pick(&[0, 1, 2, 3])] ^= 1 << random.below(8),
+        3 => bytes[4] = random.pick(&[0, 2, 3, 255]),
+        8 => match random.below(3) {
+            0 => bytes[5] = random.between(5, 255) as u8,
+            1 => bytes[7] = 0,
+            _ => bytes[6] = random.between(65, 255) as u8,
+        },
+        _ => panic!("a sheet is not refused by {refusal}"),
+    }
+    assert_eq!(check_sheet(&bytes).refusal, refusal);
+    bytes
+}
