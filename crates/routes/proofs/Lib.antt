@@ -1,0 +1,5 @@
+pub mod Orders
+pub mod OneRoute
+pub mod Turns
+pub mod Scans
+pub mod Skips

@@ -1,0 +1,24 @@
+-- `routes::pairs::asks` meets its contract. Assumes nothing.
+use borrow.Author.Needs.{needs}
+use Rattle.routes.proofs.OneRoute.{asks-is}
+use Rattle.routes.proofs.pairs.asks.Statement.{statement}
+use Rattle.routes.proofs.pairs.asks.Tie as tie
+
+end-of-requires : tie.Need-end-of-requires
+end-of-requires c κs = search needs
+
+word-of-requires : tie.Need-word-of-requires
+word-of-requires c κs = search needs
+
+row-requires : tie.Need-row-requires
+row-requires c κs = search needs
+
+passing-requires : tie.Need-passing-requires
+passing-requires c κs = search needs
+
+returns : tie.Need-returns
+returns c = search asks-is
+
+pub asks-spec : {M : Type 1} → statement M
+asks-spec =
+    tie.close (tie.spec end-of-requires word-of-requires row-requires passing-requires returns)

@@ -1,0 +1,24 @@
+-- `routes::steps::step` meets its contract. Assumes nothing.
+use borrow.Author.Needs.{needs}
+use Rattle.routes.proofs.OneRoute.{step-is}
+use Rattle.routes.proofs.steps.step.Statement.{statement}
+use Rattle.routes.proofs.steps.step.Tie as tie
+
+image-requires : tie.Need-image-requires
+image-requires c κs = search needs
+
+mul-meet : tie.Need-mul-meet
+mul-meet c = search needs
+
+element-copy-out-meet : tie.Need-element-copy-out-meet
+element-copy-out-meet c = search needs
+
+meet-requires : tie.Need-meet-requires
+meet-requires c κs = search needs
+
+returns : tie.Need-returns
+returns c = search step-is
+
+pub step-spec : {M : Type 1} → statement M
+step-spec =
+    tie.close (tie.spec image-requires mul-meet element-copy-out-meet meet-requires returns)

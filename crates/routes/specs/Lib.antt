@@ -1,0 +1,5 @@
+pub mod Order
+pub mod Held
+pub mod Pairs
+pub mod Along
+pub mod Seen

@@ -1,0 +1,83 @@
+-- The ways out of the functions that go through the lengths. Assumes nothing.
+use mathlib.Core.Path.{_≡_}
+use mathlib.Core.Logic.{⊎-elim}
+use mathlib.Core.List.{List}
+use Prim.Native.Nat.{ℕ, _+_, _-_, _/_, _≤_, _<_}
+use native.Mathlib.Nat.{eq-or-lt-of-le}
+use native.Mathlib.Omega.{arith}
+use Rattle.hops.specs.Hops.{View}
+use Rattle.routes.specs.declared.pairs.Pair.{Pair}
+use Rattle.routes.specs.Pairs.{Asked, Sought}
+use Rattle.search.specs.Lengths.{Ready, Total, Most, Clear, Outcome, Fewest}
+
+pub asked : (sa ta sb tb : List ℕ) (x y i j : ℕ) → Ready sa ta sb tb x y → i ≤ 4 → j ≤ 4 → Asked sa ta sb tb x y i j
+asked sa ta sb tb x y i j r li lj = record { left = r .left; right = r .right; cell = r .cell; partner = r .partner; first = li; second = lj }
+
+-- a number that is at most i is i or is below it
+under : (k i : ℕ) → k < i + 1 → k ≤ i
+under k i m = omega arith
+
+clear-at : (v u : View) (z ea eb : List ℕ) (x y k l i j : ℕ) → k ≡ i → l ≡ j → Clear v u z ea eb x y i j → Clear v u z ea eb x y k l
+clear-at v u z ea eb x y k l i j d e c = rw (d, e) c
+
+-- ---- the lengths of s in all whose first is below i
+pub record LengthsTo (v u : View) (z ea eb : List ℕ) (x y c s i : ℕ) : Type 0 where
+  pub each : (k l : ℕ) → Total c s k l → k < i → Clear v u z ea eb x y k l
+
+module _ (v u : View) (z ea eb : List ℕ) (x y c s : ℕ) where
+  pub lengths-start : (i : ℕ) → i ≤ s - c → LengthsTo v u z ea eb x y c s i
+  lengths-start i h = record { each = λ k l w m. absurd (omega (arith, w .all, w .most)) }
+
+  module _ (i : ℕ) (h : LengthsTo v u z ea eb x y c s i) where
+    pub lengths-next : (r : Pair) → Sought v u z ea eb x y i (s - i) r → r .kind ≡ 0 → LengthsTo v u z ea eb x y c s (i + 1)
+    lengths-next r o n = record {
+      each = λ k l w m. ⊎-elim
+          (λ q. clear-at v u z ea eb x y k l i (s - i) q (omega (arith, w .all)) (record { each = o .none n }))
+          (λ b. h .each k l w b)
+          (eq-or-lt-of-le (under k i m));
+    }
+
+    pub lengths-end : s / 2 < i → (r : Pair) → r .kind ≡ 0 → Outcome v u z ea eb x y (Total c s) r
+    lengths-end g r d = record { found = λ n. absurd (n d); none = λ _ k l w. h .each k l w (omega (arith, w .all, w .order)) }
+
+  pub lengths-found : (i : ℕ) → s - c ≤ i → i ≤ s / 2 → (r : Pair) → Sought v u z ea eb x y i (s - i) r → (r .kind ≡ 0 → ⊥) → Outcome v u z ea eb x y (Total c s) r
+  lengths-found i lo hi r o n = record {
+    found = λ _. (
+      i,
+      s - i,
+      record { all = omega arith; order = omega arith; most = omega arith },
+      record { first = o .first n; second = o .second n; fails = o .fails n; listed = o .listed n; long = o .long n },
+    );
+    none = λ e. absurd (n e);
+  }
+
+-- ---- the lengths of less than s in all
+pub record TotalsTo (v u : View) (z ea eb : List ℕ) (x y c s : ℕ) : Type 0 where
+  pub each : (k l : ℕ) → Most c k l → k + l < s → Clear v u z ea eb x y k l
+
+module _ (v u : View) (z ea eb : List ℕ) (x y c : ℕ) where
+  pub totals-start : TotalsTo v u z ea eb x y c 0
+  totals-start = record { each = λ k l w m. absurd (omega arith) }
+
+  module _ (s : ℕ) (h : TotalsTo v u z ea eb x y c s) (r : Pair) where
+    pub totals-next : Outcome v u z ea eb x y (Total c s) r → r .kind ≡ 0 → TotalsTo v u z ea eb x y c (s + 1)
+    totals-next o n = record {
+      each = λ k l w m. ⊎-elim
+          (λ q. o .none n k l (record { all = q; order = w .order; most = w .most }))
+          (λ b. h .each k l w b)
+          (eq-or-lt-of-le (under (k + l) s m));
+    }
+
+    pub totals-end : c + c < s → r .kind ≡ 0 → Fewest v u z ea eb x y c r
+    totals-end g d = record {
+      outcome = record { found = λ n. absurd (n d); none = λ _ k l w. h .each k l w (omega (arith, w .order, w .most)) };
+      fewest = λ n. absurd (n d);
+    }
+
+    pub totals-found : Outcome v u z ea eb x y (Total c s) r → (r .kind ≡ 0 → ⊥) → Fewest v u z ea eb x y c r
+    totals-found o n =
+        let (i, j, w, f) = o .found n in
+        record {
+          outcome = record { found = λ _. (i, j, record { order = w .order; most = w .most }, f); none = λ e. absurd (n e) };
+          fewest = λ _ k l m b. h .each k l m (omega (arith, f .long .0, f .long .1, w .all));
+        }

@@ -1,0 +1,63 @@
+-- `search::by_lengths` meets its contract. The invariant: the lengths passed are clear. Assumes nothing.
+use native.Mathlib.Omega.{arith}
+use borrow.Author.Needs.{needs}
+use mathlib.Core.Logic.{⊎-elim}
+use Prim.Native.Nat.{_+_, _-_, _/_, _≤_}
+use Rattle.hops.specs.Hops.{viewOf}
+use Rattle.search.specs.Lengths.{Ready}
+use Rattle.search.proofs.Ranges.{asked, LengthsTo, lengths-start, lengths-next, lengths-end, lengths-found}
+use Rattle.search.proofs.by_lengths.Statement.{statement}
+use Rattle.search.proofs.by_lengths.Tie as tie
+
+abbrev Inv-loop : tie.InvT-loop
+Inv-loop sa la ta ea sb lb tb eb z x y c s i₀ i = Ready sa ta sb tb x y × (c ≤ 4) × (s ≤ c + c) × (s - c ≤ i) × (i ≤ s / 2 + 1) × LengthsTo (viewOf sa la ta) (viewOf sb lb tb) z ea eb x y c s i
+
+abbrev μ-loop : tie.MeasureT-loop
+μ-loop sa la ta ea sb lb tb eb z x y c s i₀ i = s / 2 + 1 - i
+
+sub-i : tie.Need-sub-i Inv-loop μ-loop
+sub-i c = omega arith
+
+loop-holds : tie.Need-loop-holds Inv-loop μ-loop
+loop-holds c = ⊎-elim (λ w. (search needs, omega arith, omega arith, omega arith, omega arith, lengths-start _ _ _ _ _ _ _ _ _ _ (omega arith))) (λ w. (search needs, omega arith, omega arith, omega arith, omega arith, lengths-start _ _ _ _ _ _ _ _ _ _ (omega arith))) (c .if1 .came)
+
+sub-two-paths : tie.Need-sub-two-paths Inv-loop μ-loop
+sub-two-paths c = omega arith
+
+two-paths-requires : tie.Need-two-paths-requires Inv-loop μ-loop
+two-paths-requires c κs = asked _ _ _ _ _ _ _ _ (c .before .before .loop .inv .0) (omega arith) (omega arith)
+
+returns : tie.Need-returns Inv-loop μ-loop
+returns c = search lengths-found
+
+add-i : tie.Need-add-i Inv-loop μ-loop
+add-i c = omega arith
+
+loop-less : tie.Need-loop-less Inv-loop μ-loop
+loop-less c = omega arith
+
+loop-again : tie.Need-loop-again Inv-loop μ-loop
+loop-again c = (search needs, omega arith, omega arith, omega arith, omega arith, lengths-next _ _ _ _ _ _ _ _ _ _ (c .before .before .before .before .before .loop .inv .5) _ (c .before .before .two-paths .ensures) (c .if2 .left))
+
+no-pair-requires : tie.Need-no-pair-requires Inv-loop μ-loop
+no-pair-requires c κs = search needs
+
+returns-2 : tie.Need-returns-2 Inv-loop μ-loop
+returns-2 c = search lengths-end
+
+pub by-lengths-spec : {M : Type 1} → statement M
+by-lengths-spec =
+    tie.close
+    (tie.spec
+    Inv-loop
+    μ-loop
+    sub-i
+    loop-holds
+    sub-two-paths
+    two-paths-requires
+    returns
+    add-i
+    loop-less
+    loop-again
+    no-pair-requires
+    returns-2)

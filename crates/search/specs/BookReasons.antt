@@ -1,0 +1,81 @@
+-- What a caller cites that has read two accepted books: their lists show their graphs. Assumes nothing.
+use mathlib.Core.Bool.{true, not}
+use mathlib.Core.Path.{_≡_, sym, ap, _∙_}
+use mathlib.Core.List.{List}
+use Prim.Native.Nat.{ℕ, _<_}
+use borrow.Author.Tests.{eqb-true, eq-eqb}
+use lib.Dec.{eqb}
+use lib.ListN.{getD}
+use Rattle.theory.specs.Tests.{test-eq}
+use Rattle.theory.specs.Graph.{Comparison, same, differ, compared}
+use Rattle.theory.specs.Bisimulation.{Relation}
+use Rattle.words.specs.Words.{bit}
+use Rattle.words.specs.Laws.{bit-wordOf-lt}
+use Rattle.book.specs.Book.{cellsOf, linksOf, bookRefusal}
+use Rattle.book.specs.BookGraph.{graphOf}
+use Rattle.book.specs.Accepted.{book-sizes, book-graph, cell-few}
+use Rattle.edges.specs.BookEdges.{Loaded, passing}
+use Rattle.edges.specs.BookLaws.{passing-rows}
+use Rattle.hops.specs.Hops.{viewOf, Opened, Starts}
+use Rattle.hops.specs.Sets.{rowAt, Paired}
+use Rattle.hops.specs.BookHops.{book-opened, book-out}
+use Rattle.search.specs.Lengths.{Ready}
+use Rattle.search.specs.Reasons.{numberOf, Drawn, Posed}
+
+-- The lists hold an accepted book: its links (`edges::load`), their table of starts (`hops::starts`), and the rows of the cells that pass
+-- each comparison (`edges::passing`, `hops::paired`).
+pub record Read (s fs ls ts starts ends : List ℕ) : Type 0 where
+  pub accepted : bookRefusal s ≡ 0
+  pub loaded : Loaded s fs ls ts
+  pub table : Starts (linksOf s) fs starts
+  pub rows : Paired (passing s same) (passing s differ) ends
+
+-- a comparison of data values is the same from both sides
+eqb-turn : (m n : ℕ) → eqb m n ≡ eqb n m
+eqb-turn m n = test-eq _ _ (λ e. eq-eqb n m (sym (eqb-true m n e))) (λ e. eq-eqb m n (sym (eqb-true n m e)))
+
+pub compared-even : (value : ℕ → ℕ) (t : Comparison) (x y : ℕ) → compared value t x y ≡ true → compared value t y x ≡ true
+unfolding compared
+compared-even value same x y e = eqb-turn (value y) (value x) ∙ e
+compared-even value differ x y e = ap not (eqb-turn (value y) (value x)) ∙ e
+
+module _ (s fs ls ts starts ends : List ℕ) (d : Read s fs ls ts starts ends) where
+  -- row x of a comparison, in the table
+  row-is : (t : Comparison) (x : ℕ) → x < 64 → rowAt ends (numberOf t) x ≡ getD (passing s t) x 0
+  row-is same x l = d .rows .first x l
+  row-is differ x l = d .rows .second x l
+
+  pub read-opened : Opened starts ts
+  read-opened = book-opened s fs ls ts starts (d .accepted) (d .loaded) (d .table)
+
+  pub read-drawn : Drawn (graphOf s) (viewOf starts ls ts) ends
+  read-drawn = record {
+    formed = book-graph s (d .accepted);
+    small = book-sizes s (d .accepted) .few;
+    hops = book-out s fs ls ts starts (d .accepted) (d .loaded) (d .table);
+    rows = λ t x y lx ly.
+        ap (λ (w : ℕ). bit w y) (row-is t x (cell-few s x (d .accepted) lx) ∙ passing-rows s t (d .accepted) .row x lx)
+        ∙ bit-wordOf-lt (cellsOf s) (graphOf s .ends t x) y ly;
+    even = compared-even _;
+  }
+
+-- two books, a cell of each, and a relation that the rows hold
+module _ (s fs ls ts starts ends : List ℕ) (d : Read s fs ls ts starts ends) (s′ fs′ ls′ ts′ starts′ ends′ : List ℕ) (d′ : Read s′ fs′ ls′ ts′ starts′ ends′)
+    (a b : ℕ) (here : a < cellsOf s) (there : b < cellsOf s′) where
+  pub read-ready : Ready starts ts starts′ ts′ a b
+  read-ready = record {
+    left = read-opened s fs ls ts starts ends d;
+    right = read-opened s′ fs′ ls′ ts′ starts′ ends′ d′;
+    cell = cell-few s a (d .accepted) here;
+    partner = cell-few s′ b (d′ .accepted) there;
+  }
+
+  pub read-posed : (rows : List ℕ) (z : Relation) → ((x y : ℕ) → x < cellsOf s → y < cellsOf s′ → bit (getD rows x 0) y ≡ z x y)
+      → Posed (graphOf s) (graphOf s′) z (viewOf starts ls ts) (viewOf starts′ ls′ ts′) rows ends ends′ a b
+  read-posed rows z e = record {
+    left = read-drawn s fs ls ts starts ends d;
+    right = read-drawn s′ fs′ ls′ ts′ starts′ ends′ d′;
+    related = e;
+    here = here;
+    there = there;
+  }

@@ -1,0 +1,258 @@
+-- From the numbered paths and the words to the theory's paths, `follow` and `met`. Assumes nothing.
+use mathlib.Core.Bool.{Bool, true, false, So, not, _&&_, false≢true}
+use mathlib.Core.Path.{_≡_, refl, sym, ap, ap₂, _∙_}
+use mathlib.Core.Logic.{_↔_, inl, inr, ⊎-elim}
+use mathlib.Core.List.{List, [], _∷_, map, List·Memᴰ, List·Memᴰ·head, List·Memᴰ·tail, List·Memᴰ·not-nil, List·Memᴰ·cases-cons}
+use Prim.Native.Nat.{ℕ, zero, suc, _+_, _-_, _^_, _≤_, _<_}
+use native.Mathlib.Nat.{eq-or-lt-of-le, lt-of-le-of-lt}
+use native.Mathlib.Omega.{arith}
+use borrow.Author.Tests.{eqb-true, eq-eqb, ne-eqb}
+use lib.Bits.{bitAnd, and-le-l}
+use lib.Dec.{eqb}
+use lib.ListN.{length, getD}
+use lib.Pow.{pow-lt}
+use Rattle.theory.specs.Search.{any}
+use Rattle.theory.specs.Tests.{any-iff, and-iff, append-iff, test-eq}
+use Rattle.theory.specs.Graph.{Comparison, Graph, linked}
+use Rattle.theory.specs.Path.{Hop, Path, Walk, end}
+use Rattle.theory.specs.Walks.{linked-inside, end-inside}
+use Rattle.theory.specs.Bisimulation.{Relation}
+use Rattle.theory.specs.Rounds.{follow, met}
+use Rattle.theory.specs.Follow.{follow-below}
+use Rattle.words.specs.Words.{bit}
+use Rattle.words.specs.Laws.{bit-and, bit-pow, zero-iff}
+use Rattle.edges.specs.Edges.{meets}
+use Rattle.edges.specs.Laws.{any-ext, meets-zero}
+use Rattle.hops.specs.Hops.{View, startOf, labelOf, toOf, hopAt, hopsFrom, hopsOf}
+use Rattle.hops.specs.Sets.{among, reached, spread, imageOf, rowAt}
+use Rattle.hops.specs.Laws.{among-iff, linked-among, bit-reached, bit-spread, spread-lt}
+use Rattle.routes.specs.Order.{endOf, pathOf, onward, routesOut}
+use Rattle.routes.specs.Held.{stepWord, endsOver}
+use Rattle.routes.specs.Pairs.{wantedOf, failing, alone}
+use Rattle.search.specs.Reasons.{numberOf, Drawn}
+
+-- ---- numbered paths
+module _ (v : View) where
+  end-path : (x : ℕ) (w : List ℕ) → endOf (v .to) x w ≡ end x (pathOf v w)
+  unfolding endOf pathOf end
+  end-path x [] = refl
+  end-path x (k ∷ w) = end-path (toOf v k) w
+
+  -- the hops are those of the links
+  hop-in : (k n l : ℕ) → k ≤ l → l < k + n → List·Memᴰ (hopAt v l) (hopsFrom v k n)
+  unfolding hopsFrom
+  hop-in k zero l h m = absurd (omega arith)
+  hop-in k (suc n) l h m = ⊎-elim (λ q. List·Memᴰ·head (rw q)) (λ s. List·Memᴰ·tail (hop-in (suc k) n l s (omega arith))) (eq-or-lt-of-le h)
+
+  hop-out : (k n : ℕ) (h : Hop) → List·Memᴰ h (hopsFrom v k n) → (l : ℕ) × (k ≤ l) × (l < k + n) × (h ≡ hopAt v l)
+  unfolding hopsFrom
+  hop-out k zero h m = absurd (List·Memᴰ·not-nil m)
+  hop-out k (suc n) h m =
+      ⊎-elim (λ q. (k, omega arith, omega arith, q)) (λ r. let (l, a, b, q) = hop-out (suc k) n h r in (l, omega arith, omega arith, q))
+      (List·Memᴰ·cases-cons m)
+
+  -- the paths that go on
+  front-in : (k : ℕ) (w : List ℕ) (ws : List (List ℕ)) → List·Memᴰ w ws → List·Memᴰ (k ∷ w) (map (λ u. k ∷ u) ws)
+  front-in k w [] m = absurd (List·Memᴰ·not-nil m)
+  front-in k w (u ∷ ws) m =
+      ⊎-elim (λ q. List·Memᴰ·head (ap (λ (p : List ℕ). k ∷ p) q)) (λ r. List·Memᴰ·tail (front-in k w ws r)) (List·Memᴰ·cases-cons m)
+
+  front-out : (k : ℕ) (w : List ℕ) (ws : List (List ℕ)) → List·Memᴰ w (map (λ u. k ∷ u) ws) → (u : List ℕ) × (w ≡ k ∷ u) × List·Memᴰ u ws
+  front-out k w [] m = absurd (List·Memᴰ·not-nil m)
+  front-out k w (u ∷ ws) m =
+      ⊎-elim (λ q. (u, q, List·Memᴰ·head refl)) (λ r. let (u′, q, n) = front-out k w ws r in (u′, q, List·Memᴰ·tail n)) (List·Memᴰ·cases-cons m)
+
+  onward-in : (f : ℕ → List (List ℕ)) (k n l : ℕ) (w : List ℕ) → k ≤ l → l < k + n → List·Memᴰ w (f (toOf v l)) → List·Memᴰ (l ∷ w) (onward v f k n)
+  unfolding onward
+  onward-in f k zero l w h m e = absurd (omega arith)
+  onward-in f k (suc n) l w h m e =
+      append-iff (l ∷ w) (map (λ u. k ∷ u) (f (toOf v k))) (onward v f (k + 1) n) .1
+      (⊎-elim (λ q. inl (rw q (front-in l w (f (toOf v l)) e))) (λ s. inr (onward-in f (k + 1) n l w (omega arith) (omega arith) e)) (eq-or-lt-of-le h))
+
+  onward-out : (f : ℕ → List (List ℕ)) (k n : ℕ) (w : List ℕ) → List·Memᴰ w (onward v f k n)
+      → (l : ℕ) × (u : List ℕ) × (k ≤ l) × (l < k + n) × (w ≡ l ∷ u) × List·Memᴰ u (f (toOf v l))
+  unfolding onward
+  onward-out f k zero w m = absurd (List·Memᴰ·not-nil m)
+  onward-out f k (suc n) w m =
+      ⊎-elim
+      (λ a. let (u, q, e) = front-out k w (f (toOf v k)) a in (k, u, omega arith, omega arith, q, e))
+      (λ b. let (l, u, h, s, q, e) = onward-out f (k + 1) n w b in (l, u, omega arith, omega arith, q, e))
+      (append-iff w (map (λ u. k ∷ u) (f (toOf v k))) (onward v f (k + 1) n) .0 m)
+
+  -- a path of one link
+  pub one-out : (x : ℕ) (w : List ℕ) → List·Memᴰ w (routesOut v 1 x) → (k : ℕ) × (w ≡ k ∷ [])
+  unfolding routesOut
+  one-out x w m =
+      let (k, u, h, b, q, n) = onward-out (routesOut v 0) (startOf v x) (startOf v (x + 1) - startOf v x) w m in
+      (k, ⊎-elim (λ e. rw e at q) (λ e. absurd (List·Memᴰ·not-nil e)) (List·Memᴰ·cases-cons n))
+
+  at-node : (d : ℕ) (u : List ℕ) (y y′ : ℕ) → y ≡ y′ → List·Memᴰ u (routesOut v d y) → List·Memᴰ u (routesOut v d y′)
+  at-node d u y y′ e m = rw e at m
+
+  module _ (g : Graph) (ends : List ℕ) (s : Drawn g v ends) where
+    linked-is : (x a y : ℕ) → x < 64 → linked g x a y ≡ among (hopsOf v x) a y
+    linked-is x a y l = linked-among g (hopsOf v x) x a y (s .hops x l)
+
+    inside : (x a y : ℕ) → x < 64 → So (among (hopsOf v x) a y) → y < 64
+    inside x a y l e = let i = linked-inside (s .formed) x a y (rw (linked-is x a y l) e) in omega (arith, s .small)
+
+    -- the numbered paths of d links are the paths of d links
+    pub route-walk : (d x : ℕ) (w : List ℕ) → x < 64 → List·Memᴰ w (routesOut v d x) → Walk g x (pathOf v w) × (length (pathOf v w) ≡ d)
+    unfolding routesOut pathOf Walk
+    route-walk zero x w l m = ⊎-elim (λ q. rw q (tt, refl)) (λ n. absurd (List·Memᴰ·not-nil n)) (List·Memᴰ·cases-cons m)
+    route-walk (suc d) x w l m =
+        let (k, u, h, b, q, n) = onward-out (routesOut v d) (startOf v x) (startOf v (x + 1) - startOf v x) w m in
+        let e : So (among (hopsOf v x) (labelOf v k) (toOf v k)) =
+        among-iff (hopsOf v x) (labelOf v k) (toOf v k) .1 (hop-in (startOf v x) (startOf v (x + 1) - startOf v x) k h b) in
+        let (wu, lu) = route-walk d (toOf v k) u (inside x (labelOf v k) (toOf v k) l e) n in
+        rw q ((rw (linked-is x (labelOf v k) (toOf v k) l) e, wu), ap suc lu)
+
+    pub walk-route : (d x : ℕ) (p : Path) → x < 64 → Walk g x p → length p ≡ d → (w : List ℕ) × List·Memᴰ w (routesOut v d x) × (pathOf v w ≡ p)
+    unfolding routesOut pathOf Walk
+    walk-route zero x [] l k e = ([], List·Memᴰ·head refl, refl)
+    walk-route zero x (h ∷ p) l k e = absurd (omega arith)
+    walk-route (suc d) x [] l k e = absurd (omega arith)
+    walk-route (suc d) x (h ∷ p) l (k, r) e =
+        let i : So (among (hopsOf v x) (h .label) (h .to)) = rw (linked-is x (h .label) (h .to) l) at k in
+        let (m, a, b, q) = hop-out (startOf v x) (startOf v (x + 1) - startOf v x) h (among-iff (hopsOf v x) (h .label) (h .to) .0 i) in
+        let t : h .to ≡ toOf v m = cc in
+        let (u, n, o) = walk-route d (h .to) p (inside x (h .label) (h .to) l i) r (omega arith) in
+        (m ∷ u, onward-in (routesOut v d) (startOf v x) (startOf v (x + 1) - startOf v x) m u a b (at-node d u (h .to) (toOf v m) t n), (cc))
+
+-- ---- words
+pub test-off : (b : Bool) → (So b → ⊥) → b ≡ false
+test-off true f = absurd (f refl)
+test-off false f = refl
+
+-- the relation of rows of words
+abbrev pub relationOf : List ℕ → Relation
+relationOf rows a b = bit (getD rows a 0) b
+
+-- a word that is not 0 has a node
+pub some-node : (w : ℕ) → w < 2 ^ 64 → (w ≡ 0 → ⊥) → (y : ℕ) × (y < 64) × So (bit w y)
+some-node w l n = by (any 64 (bit w)) refl
+  where
+    by : (e : Bool) → any 64 (bit w) ≡ e → (y : ℕ) × (y < 64) × So (bit w y)
+    by true h = any-iff 64 (bit w) .0 h
+    by false h = absurd (n (zero-iff 64 w l .1 (λ i m. test-off (bit w i) (λ e. false≢true (sym h ∙ any-iff 64 (bit w) .1 (i, m, e))))))
+
+-- words without a common node
+apart-iff : (a b : ℕ) → a < 2 ^ 64 → eqb (bitAnd a b) 0 ≡ not (meets a b)
+apart-iff a b l = by (meets a b) refl
+  where
+    by : (e : Bool) → meets a b ≡ e → eqb (bitAnd a b) 0 ≡ not e
+    by true h = ne-eqb (bitAnd a b) 0 (λ z. false≢true (sym (meets-zero a b l .0 z) ∙ h))
+    by false h = eq-eqb (bitAnd a b) 0 (meets-zero a b l .1 h)
+
+-- ---- the words are `follow`
+module _ (v u : View) (r : Graph) (ends : List ℕ) (s : Drawn r u ends) (rows : List ℕ) where
+  bit-image : (w a y : ℕ) → y < 64 → So (bit (imageOf u w a) y) ↔ ((x : ℕ) × (x < 64) × So (bit w x) × So (linked r x a y))
+  bit-image w a y l = (
+    λ e.
+        let (x, lx, (p, q)) = simp (any-iff, and-iff) at (sym (bit-spread (λ x. reached (hopsOf u x) a) w y l) ∙ e) in
+        (x, lx, p, linked-is u r ends s x a y lx ∙ sym (bit-reached (hopsOf u x) a y l) ∙ q),
+    λ (x, lx, p, q).
+        bit-spread (λ x. reached (hopsOf u x) a) w y l
+        ∙ any-iff 64 _ .1 (x, lx, and-iff _ _ .1 (p, bit-reached (hopsOf u x) a y l ∙ sym (linked-is u r ends s x a y lx) ∙ q)),
+  )
+
+  -- a node of the next word
+  step-iff : (w a t y : ℕ) → y < 64 → So (bit (stepWord u rows w a t) y) ↔ ((x : ℕ) × (x < 64) × So (bit w x) × So (linked r x a y) × So (relationOf rows t y))
+  unfolding stepWord
+  step-iff w a t y l = (
+    λ e.
+        let (i, j) = and-iff _ _ .0 (sym (bit-and (imageOf u w a) (getD rows t 0) y) ∙ e) in
+        let (x, lx, p, q) = bit-image w a y l .0 i in
+        (x, lx, p, q, j),
+    λ (x, lx, p, q, j). bit-and (imageOf u w a) (getD rows t 0) y ∙ and-iff _ _ .1 (bit-image w a y l .1 (x, lx, p, q), j),
+  )
+
+  ends-follow : (p : List ℕ) (w y : ℕ) → y < 64 → So (bit (endsOver v u rows w p) y) ↔ ((x : ℕ) × (x < 64) × So (bit w x) × So (follow r (relationOf rows) (pathOf v p) x y))
+  unfolding endsOver follow pathOf
+  ends-follow [] w y l = (λ e. (y, l, e, eq-eqb y y refl), λ (x, lx, e, f). let q : x ≡ y = eqb-true x y f in rw q at e)
+  ends-follow (k ∷ p) w y l = (
+    λ e.
+        let (x′, lx′, e′, f) = ends-follow p (stepWord u rows w (labelOf v k) (toOf v k)) y l .0 e in
+        let (x, lx, h, i, j) = step-iff w (labelOf v k) (toOf v k) x′ lx′ .0 e′ in
+        (x, lx, h, simp (any-iff, and-iff) (x′, linked-inside (s .formed) x (labelOf v k) x′ i, ((i, j), f))),
+    λ (x, lx, h, g).
+        let (x′, lx′, ((i, j), f)) = simp (any-iff, and-iff) at g in
+        let m : x′ < 64 = omega (arith, s .small) in
+        ends-follow p (stepWord u rows w (labelOf v k) (toOf v k)) y l .1 (x′, m, step-iff w (labelOf v k) (toOf v k) x′ m .1 (x, lx, h, i, j), f),
+  )
+
+  -- from one node
+  pub ends-from : (b : ℕ) → b < 64 → (p : List ℕ) (y : ℕ) → y < 64 → So (bit (endsOver v u rows (2 ^ b) p) y) ↔ So (follow r (relationOf rows) (pathOf v p) b y)
+  ends-from b lb p y l = (
+    λ e. let (x, lx, h, f) = ends-follow p (2 ^ b) y l .0 e in let q : b ≡ x = eqb-true b x (sym (bit-pow b x) ∙ h) in rw (← q) at f,
+    λ f. ends-follow p (2 ^ b) y l .1 (b, lb, bit-pow b b ∙ eq-eqb b b refl, f),
+  )
+
+step-small : (u : View) (rows : List ℕ) (w a t : ℕ) → stepWord u rows w a t < 2 ^ 64
+unfolding stepWord
+step-small u rows w a t = lt-of-le-of-lt (and-le-l (imageOf u w a) (getD rows t 0)) (spread-lt _ w)
+
+pub over-lt : (v u : View) (rows : List ℕ) (p : List ℕ) (w : ℕ) → w < 2 ^ 64 → endsOver v u rows w p < 2 ^ 64
+unfolding endsOver
+over-lt v u rows [] w l = l
+over-lt v u rows (k ∷ p) w l = over-lt v u rows p _ (step-small u rows w (labelOf v k) (toOf v k))
+
+-- ---- another relation that agrees on the nodes
+module _ (l r : Graph) (z z′ : Relation) (agree : (x y : ℕ) → x < l .size → y < r .size → z x y ≡ z′ x y) (ends : List ℕ) (v : View) (s : Drawn l v ends) where
+  follow-ext : (p : Path) (x b y : ℕ) → Walk l x p → follow r z p b y ≡ follow r z′ p b y
+  unfolding follow Walk
+  follow-ext [] x b y k = refl
+  follow-ext (h ∷ p) x b y (k, w) =
+      any-ext (r .size) _ _
+      (λ b′ m.
+      ap₂ _&&_ (ap (λ (c : Bool). linked r b (h .label) b′ && c) (agree (h .to) b′ (linked-inside (s .formed) x (h .label) (h .to) k) m))
+      (follow-ext p (h .to) b′ y w))
+
+  pub met-ext : (t : Comparison) (p q : Path) (x b : ℕ) → Walk l x p → Walk l x q → met r z b t p q ≡ met r z′ b t p q
+  unfolding met
+  met-ext t p q x b wp wq =
+      any-ext (r .size) _ _
+      (λ y m. ap₂ _&&_ (follow-ext p x b y wp) (any-ext (r .size) _ _ (λ y′ m′. ap (λ (c : Bool). c && r .ends t y y′) (follow-ext q x b y′ wq))))
+
+-- ---- two paths are alone where they pass t and have no counterpart
+module _ (v u : View) (l r : Graph) (rows ea eb : List ℕ) (dl : Drawn l v ea) (dr : Drawn r u eb) (t : Comparison) (x y : ℕ) (lx : x < l .size) (ly : y < r .size) where
+  small : y < 64
+  small = omega (arith, dr .small)
+
+  met-is : (p q : List ℕ) → meets (endsOver v u rows (2 ^ y) q) (spread (rowAt eb (numberOf t)) (endsOver v u rows (2 ^ y) p))
+      ≡ met r (relationOf rows) y t (pathOf v p) (pathOf v q)
+  unfolding met meets
+  met-is p q = test-eq _ _ to from
+    where
+      to : So (any 64 (λ i. bit (endsOver v u rows (2 ^ y) q) i && bit (spread (rowAt eb (numberOf t)) (endsOver v u rows (2 ^ y) p)) i))
+          → So (any (r .size) (λ i. follow r (relationOf rows) (pathOf v p) y i
+          && any (r .size) (λ j. follow r (relationOf rows) (pathOf v q) y j && r .ends t i j)))
+      to e =
+          let (j, lj, (f, g)) = simp (any-iff, and-iff) at e in
+          let (i, li, (f′, h)) = simp (any-iff, and-iff) at (sym (bit-spread (rowAt eb (numberOf t)) (endsOver v u rows (2 ^ y) p) j lj) ∙ g) in
+          let a = ends-from v u r eb dr rows y small q j lj .0 f in
+          let b = ends-from v u r eb dr rows y small p i li .0 f′ in
+          let bi = follow-below r (relationOf rows) (pathOf v p) y i ly b in
+          let bj = follow-below r (relationOf rows) (pathOf v q) y j ly a in
+          simp (any-iff, and-iff) (i, bi, (b, (j, bj, (a, sym (dr .rows t i j bi bj) ∙ h))))
+
+      from : So (any (r .size) (λ i. follow r (relationOf rows) (pathOf v p) y i
+          && any (r .size) (λ j. follow r (relationOf rows) (pathOf v q) y j && r .ends t i j)))
+          → So (any 64 (λ i. bit (endsOver v u rows (2 ^ y) q) i && bit (spread (rowAt eb (numberOf t)) (endsOver v u rows (2 ^ y) p)) i))
+      from e =
+          let (i, bi, (b, (j, bj, (a, h)))) = simp (any-iff, and-iff) at e in
+          let li : i < 64 = omega (arith, dr .small) in
+          let lj : j < 64 = omega (arith, dr .small) in
+          let g = bit-spread (rowAt eb (numberOf t)) (endsOver v u rows (2 ^ y) p) j lj
+          ∙ any-iff 64 (λ x. bit (endsOver v u rows (2 ^ y) p) x && bit (rowAt eb (numberOf t) x) j) .1
+          (i, li, and-iff _ _ .1 (ends-from v u r eb dr rows y small p i li .1 b, dr .rows t i j bi bj ∙ h)) in
+          simp (any-iff, and-iff) (j, lj, (ends-from v u r eb dr rows y small q j lj .1 a, g))
+
+  pub alone-is : (p q : List ℕ) → Walk l x (pathOf v p) → Walk l x (pathOf v q)
+      → alone v u rows ea eb x y (numberOf t) p q ≡ l .ends t (end x (pathOf v p)) (end x (pathOf v q)) && not (met r (relationOf rows) y t (pathOf v p) (pathOf v q))
+  unfolding alone failing wantedOf
+  alone-is p q wp wq =
+      ap₂ _&&_
+      (ap₂ (λ (i j : ℕ). bit (rowAt ea (numberOf t) i) j) (end-path v x p) (end-path v x q)
+      ∙ dl .rows t _ _ (end-inside (dl .formed) x (pathOf v p) lx wp) (end-inside (dl .formed) x (pathOf v q) lx wq))
+      (apart-iff _ _ (over-lt v u rows q (2 ^ y) (pow-lt small)) ∙ ap not (met-is p q))

@@ -1,0 +1,73 @@
+-- What a caller of the search cites, in exit form: every number that the code has is a variable. Assumes nothing.
+use mathlib.Core.Bool.{true}
+use mathlib.Core.Path.{_≡_, refl, ap, _∙_}
+use mathlib.Core.List.{List, [], _∷_}
+use Prim.Native.Nat.{ℕ, zero, suc, _≤_, _<_}
+use native.Mathlib.Nat.{not-suc-le-zero, le-of-suc-le-suc}
+use native.Mathlib.Omega.{arith}
+use lib.ListN.{length, getD, take}
+use lib.Seq.{getD-take, length-take-le}
+use Rattle.theory.specs.Graph.{same, differ, Graph}
+use Rattle.theory.specs.Path.{Hop}
+use Rattle.theory.specs.Bisimulation.{Relation}
+use Rattle.theory.specs.Rounds.{zigs}
+use Rattle.theory.specs.Parting.{byLink, byPaths, Fails}
+use Rattle.hops.specs.Hops.{View, hopAt}
+use Rattle.routes.specs.Order.{pathOf}
+use Rattle.search.specs.declared.Steps.{Steps}
+use Rattle.search.specs.declared.Reason.{Reason}
+use Rattle.search.specs.Reasons.{Posed, pathIn, reasonOf, Numbered, Answered}
+
+-- ---- the answer, of two graphs and a relation that the lists show
+module _ (l r : Graph) (z : Relation) (v u : View) (rows ea eb : List ℕ) (a b c : ℕ) (s : Reason) (w : Answered v u rows ea eb a b c s)
+    (d : Posed l r z v u rows ea eb a b) where
+  pub answer-fails : (s .kind ≡ 0 → ⊥) → Fails l r c z a b (reasonOf v s)
+  answer-fails n = w .fails l r z d n
+
+  pub answer-none : s .kind ≡ 0 → zigs l r c z a b ≡ true
+  answer-none e = w .none l r z d e
+
+-- ---- the reason of each kind
+module _ (v : View) (s : Reason) where
+  pub reason-link : s .kind ≡ 4 → reasonOf v s ≡ byLink (hopAt v (getD (s .first .links) 0 0))
+  unfolding reasonOf
+  reason-link e = rw e
+
+  pub reason-same : s .kind ≡ 5 → reasonOf v s ≡ byPaths same (pathIn v (s .first)) (pathIn v (s .second))
+  unfolding reasonOf
+  reason-same e = rw e
+
+  pub reason-differ : s .kind ≡ 6 → reasonOf v s ≡ byPaths differ (pathIn v (s .first)) (pathIn v (s .second))
+  unfolding reasonOf
+  reason-differ e = rw e
+
+-- ---- the paths of a reason, link by link
+path-length : (v : View) (p : List ℕ) → length (pathOf v p) ≡ length p
+unfolding pathOf
+path-length v [] = refl
+path-length v (k ∷ p) = ap suc (path-length v p)
+
+path-at : (v : View) (p : List ℕ) (i : ℕ) (h : Hop) → i < length p → getD (pathOf v p) i h ≡ hopAt v (getD p i 0)
+unfolding pathOf
+path-at v [] i h l = absurd (not-suc-le-zero l)
+path-at v (k ∷ p) zero h l = refl
+path-at v (k ∷ p) (suc i) h l = path-at v p i h (le-of-suc-le-suc l)
+
+module _ (v : View) (to : List ℕ) (c : ℕ) (w : Steps) (n : Numbered to c w) (small : c ≤ 4) where
+  whole : length (take (w .len) (w .links)) ≡ w .len
+  whole = length-take-le (w .len) (w .links) (omega (arith, n .short, n .links))
+
+  pub steps-length : length (pathIn v w) ≡ w .len
+  steps-length = path-length v (take (w .len) (w .links)) ∙ whole
+
+  module _ (i : ℕ) (l : i < w .len) where
+    pub steps-below : getD (w .links) i 0 < 512
+    steps-below = n .below i l
+
+    pub steps-low : getD to (getD (w .links) i 0) 0 < 64
+    steps-low = n .low i l
+
+    pub steps-at : (h : Hop) → getD (pathIn v w) i h ≡ hopAt v (getD (w .links) i 0)
+    steps-at h =
+        path-at v (take (w .len) (w .links)) i h (omega (arith, whole))
+        ∙ ap (λ (k : ℕ). hopAt v k) (getD-take (w .len) (w .links) i 0 l)

@@ -1,0 +1,172 @@
+// Why cell x of one book and cell y of the other part, in one direction: a link, or two paths, without counterpart; fewest links first.
+// Callers exchange the books for the other direction.
+ghost use mathlib.Core.Path.{_≡_};
+ghost use Prim.Native.Nat.{_+_, _≤_};
+ghost use Rattle.hops.specs.Hops.{viewOf};
+ghost use Rattle.search.specs.Lengths.{Ready, Outcome, Total, Fewest, Single};
+ghost use Rattle.search.specs.Reasons.{stepsOf, Answered};
+use routes::pairs;
+use routes::pairs::Pair;
+use routes::steps;
+use routes::steps::Route;
+
+// A path by the numbers of its first `len` links.
+pub struct Steps {
+    pub len: u8,
+    pub links: [u16; 4],
+}
+
+// A reason to part x and y, by the kind of the entry that asks it: 4 one link, which is `first`; 5 and 6 two paths whose recordings are
+// same or differ; 0 where there is no reason.
+pub struct Reason {
+    pub kind: u8,
+    pub first: Steps,
+    pub second: Steps,
+}
+
+// The links of a route.
+fn steps_of(w: Route) -> Steps
+    ensures { λ r. ⌜ r ≡ stepsOf w ⌝ }
+{
+    let links = w.links;
+    Steps { len: w.len, links }
+}
+
+// No two paths.
+fn no_pair() -> Pair
+    ensures { λ r. ⌜ r .kind ≡ 0 ⌝ }
+{
+    let w = steps::none();
+    Pair {
+        kind: 0,
+        first: w,
+        second: w,
+    }
+}
+
+// Two paths of s links in all, the first no longer than the second, neither longer than c.
+fn by_lengths(
+    sa: &[u16; 65],
+    la: &[u16; 512],
+    ta: &[u8; 512],
+    ea: &[u64; 128],
+    sb: &[u16; 65],
+    lb: &[u16; 512],
+    tb: &[u8; 512],
+    eb: &[u64; 128],
+    z: &[u64; 64],
+    x: u8,
+    y: u8,
+    c: u8,
+    s: u8,
+) -> Pair
+    requires { ⌜ Ready (now sa) (now ta) (now sb) (now tb) x y × (c ≤ 4) × (s ≤ c + c) ⌝ }
+    ensures { λ r. ⌜ Outcome (viewOf (now (sa .entry)) (now (la .entry)) (now (ta .entry))) (viewOf (now (sb .entry)) (now (lb .entry)) (now (tb .entry))) (now (z .entry)) (now (ea .entry)) (now (eb .entry)) x y (Total c s) r ⌝ }
+{
+    let mut i = 0u8;
+    if c < s {
+        i = s - c;
+    }
+    while i <= s / 2 {
+        let r = pairs::two_paths(sa, la, ta, ea, sb, lb, tb, eb, z, x, y, i, s - i);
+        if r.kind != 0 {
+            return r;
+        }
+        i += 1;
+    }
+    no_pair()
+}
+
+// Two paths of at most c links each, fewest in all first.
+fn by_total(
+    sa: &[u16; 65],
+    la: &[u16; 512],
+    ta: &[u8; 512],
+    ea: &[u64; 128],
+    sb: &[u16; 65],
+    lb: &[u16; 512],
+    tb: &[u8; 512],
+    eb: &[u64; 128],
+    z: &[u64; 64],
+    x: u8,
+    y: u8,
+    c: u8,
+) -> Pair
+    requires { ⌜ Ready (now sa) (now ta) (now sb) (now tb) x y × (c ≤ 4) ⌝ }
+    ensures { λ r. ⌜ Fewest (viewOf (now (sa .entry)) (now (la .entry)) (now (ta .entry))) (viewOf (now (sb .entry)) (now (lb .entry)) (now (tb .entry))) (now (z .entry)) (now (ea .entry)) (now (eb .entry)) x y c r ⌝ }
+{
+    let mut s = 0u8;
+    while s <= c + c {
+        let r = by_lengths(sa, la, ta, ea, sb, lb, tb, eb, z, x, y, c, s);
+        if r.kind != 0 {
+            return r;
+        }
+        s += 1;
+    }
+    no_pair()
+}
+
+// A single link, as a path of one link: the first one from x that has no counterpart from y.
+fn one_link(
+    sa: &[u16; 65],
+    la: &[u16; 512],
+    ta: &[u8; 512],
+    sb: &[u16; 65],
+    lb: &[u16; 512],
+    tb: &[u8; 512],
+    z: &[u64; 64],
+    x: u8,
+    y: u8,
+) -> Route
+    requires { ⌜ Ready (now sa) (now ta) (now sb) (now tb) x y ⌝ }
+    ensures { λ r. ⌜ Single (viewOf (now (sa .entry)) (now (la .entry)) (now (ta .entry))) (viewOf (now (sb .entry)) (now (lb .entry)) (now (tb .entry))) (now (z .entry)) x y r ⌝ }
+{
+    let mut p = steps::first_route(sa, la, ta, sb, lb, tb, z, x, y, 1);
+    while p.some {
+        if steps::word_of(p) == 0 {
+            return p;
+        }
+        p = steps::next_route(sa, la, ta, sb, lb, tb, z, x, p);
+    }
+    p
+}
+
+// The reason to part x and y, from x's side, under the relation z: row i of z has the cells related to cell i. First a link without
+// counterpart; else two paths of at most c links each, with fewest links in all; or none, and then x owes nothing to y.
+pub fn reason_for(
+    sa: &[u16; 65],
+    la: &[u16; 512],
+    ta: &[u8; 512],
+    ea: &[u64; 128],
+    sb: &[u16; 65],
+    lb: &[u16; 512],
+    tb: &[u8; 512],
+    eb: &[u64; 128],
+    z: &[u64; 64],
+    x: u8,
+    y: u8,
+    c: u8,
+) -> Reason
+    requires { ⌜ Ready (now sa) (now ta) (now sb) (now tb) x y × (c ≤ 4) ⌝ }
+    ensures { λ r. ⌜ Answered (viewOf (now (sa .entry)) (now (la .entry)) (now (ta .entry))) (viewOf (now (sb .entry)) (now (lb .entry)) (now (tb .entry))) (now (z .entry)) (now (ea .entry)) (now (eb .entry)) x y c r ⌝ }
+{
+    let link = one_link(sa, la, ta, sb, lb, tb, z, x, y);
+    if link.some {
+        return Reason {
+            kind: 4,
+            first: steps_of(link),
+            second: Steps {
+                len: 0,
+                links: [0u16; 4],
+            },
+        };
+    }
+    let r = by_total(sa, la, ta, ea, sb, lb, tb, eb, z, x, y, c);
+    let first = r.first;
+    let second = r.second;
+    Reason {
+        kind: r.kind,
+        first: steps_of(first),
+        second: steps_of(second),
+    }
+}
