@@ -6,7 +6,7 @@ use native.Mathlib.Nat.{le-refl}
 use native.Mathlib.Omega.{arith}
 use lib.ListN.{length}
 use Rattle.describing.specs.declared.Pen.{Pen}
-use Rattle.settling.specs.Settling.{Books, Onward}
+use Rattle.settling.specs.Settling.{Books, Onward, onward-more}
 use Rattle.turns.specs.Turns.{Opening, Turned}
 use Rattle.refining.specs.Refining.{Refines}
 
@@ -16,14 +16,6 @@ pub record Going (left right sa la ta ea sb lb tb eb : List ℕ) (c : ℕ) (room
   pub opening : Opening left right c room pen map nl nr
   pub onward : Onward room₀ room pen₀ pen
   pub places : length map ≡ length map₀
-
-onward-more : {room room′ room″ : List ℕ} {pen pen′ pen″ : Pen} → Onward room room′ pen pen′ → Onward room′ room″ pen′ pen″ → Onward room room″ pen pen″
-onward-more x y =
-    record {
-      size = y .size ∙ x .size;
-      kept = λ n h. y .kept n h ∙ x .kept n (omega (arith, y .further));
-      further = omega (arith, x .further, y .further);
-    }
 
 module _ {left right sa la ta ea sb lb tb eb : List ℕ} {c : ℕ} {room₀ map₀ : List ℕ} {pen₀ : Pen} where
   pub going-none : {nl nr : List ℕ} → Books left right sa la ta ea sb lb tb eb c → Opening left right c room₀ pen₀ map₀ nl nr

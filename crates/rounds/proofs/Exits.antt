@@ -1,7 +1,7 @@
 -- What each turn and the way out of `settle_all` shows of the definitions of `specs/`. The numbers that the code computed are variables here,
 -- with what is known of them, so that `search` finds them in a need's record. Assumes nothing.
 use mathlib.Core.List.{List}
-use mathlib.Core.Path.{_≡_, refl, sym, _∙_}
+use mathlib.Core.Path.{_≡_, refl, sym}
 use Prim.Native.Nat.{ℕ, _+_, _*_, _/_, _%_, _≤_, _<_}
 use native.Mathlib.Nat.{le-refl, mod-lt, mul-le-mul, div-add-mod', div-lt-iff-lt-mul}
 use native.Mathlib.Omega.{arith}
@@ -10,7 +10,7 @@ use Rattle.book.specs.Book.{cellsOf}
 use Rattle.book.specs.Accepted.{book-sizes, book-graph}
 use Rattle.refinement.specs.Exits.{nonzero-exit}
 use Rattle.describing.specs.declared.Pen.{Pen}
-use Rattle.settling.specs.Settling.{Books, Standing, Pairing, Onward, Settled}
+use Rattle.settling.specs.Settling.{Books, Standing, Pairing, Onward, Settled, onward-more}
 use Rattle.rounds.specs.Rounds.{Passed}
 
 -- The round stands before the place, and m and total are the right cells and the pairs.
@@ -22,14 +22,6 @@ pub record Passing (left right sa la ta ea sb lb tb eb : List ℕ) (c start : �
   pub width : m ≡ cellsOf right
   pub all : total ≡ cellsOf left * cellsOf right
   pub within : place ≤ total
-
-onward-more : {room room′ room″ : List ℕ} {pen pen′ pen″ : Pen} → Onward room room′ pen pen′ → Onward room′ room″ pen′ pen″ → Onward room room″ pen pen″
-onward-more x y =
-    record {
-      size = y .size ∙ x .size;
-      kept = λ n h. y .kept n h ∙ x .kept n (omega (arith, y .further));
-      further = omega (arith, x .further, y .further);
-    }
 
 module _ (left right sa la ta ea sb lb tb eb : List ℕ) (c start : ℕ) (rows columns ol or room₀ : List ℕ) (pen₀ : Pen) where
   pub right-long : Books left right sa la ta ea sb lb tb eb c → 8 ≤ length right

@@ -1,7 +1,8 @@
 -- Two books as they are read for a comparison, and where a round stands before a place of the map.
 use mathlib.Core.List.{List}
-use mathlib.Core.Path.{_≡_}
+use mathlib.Core.Path.{_≡_, _∙_}
 use Prim.Native.Nat.{ℕ, _+_, _*_, _≤_, _<_}
+use native.Mathlib.Omega.{arith}
 use lib.ListN.{length, getD, drop}
 use Rattle.theory.specs.Bisimulation.{flip, twoSided}
 use Rattle.theory.specs.Rounds.{after}
@@ -54,6 +55,15 @@ pub record Onward (room room′ : List ℕ) (pen pen′ : Pen) : Type 0 where
   pub size : length room′ ≡ length room
   pub kept : (n : ℕ) → pen′ .at ≤ n → drop n room′ ≡ drop n room
   pub further : pen .at ≤ pen′ .at
+
+-- and what is written next, behind that
+pub onward-more : {room room′ room″ : List ℕ} {pen pen′ pen″ : Pen} → Onward room room′ pen pen′ → Onward room′ room″ pen′ pen″ → Onward room room″ pen pen″
+onward-more x y =
+    record {
+      size = y .size ∙ x .size;
+      kept = λ n h. y .kept n h ∙ x .kept n (omega (arith, y .further));
+      further = omega (arith, x .further, y .further);
+    }
 
 -- The pair at the place is settled: the round stands before the next.
 pub record Settled (left right : List ℕ) (c start place : ℕ) (rows columns ol or room room′ : List ℕ) (pen pen′ : Pen) (map nl nr : List ℕ) : Type 0 where
