@@ -64,6 +64,28 @@ uint64_t cuhnavel_check_book(const uint8_t *bytes, size_t len);
  */
 uint64_t cuhnavel_check_sheet(const uint8_t *bytes, size_t len);
 
+/* Compare: which cells of two books do the same, and what parts the others. With n the left book's number of cells and m the
+ * right one's:
+ *   map      n x m places. Place i x m + j becomes 0 where left cell i and right cell j are matched, that is where no question
+ *            within the bound is true at the one and false at the other; else it becomes the number of an entry of the sheet
+ *            whose question is true at left cell i and false at right cell j.
+ *   room     at least 10 + 44 x n x m bytes. It starts with the sheet of these questions, for the bound; the bytes after the
+ *            sheet are as they were.
+ *   scratch  at least 16 x n x m bytes. All that is lent becomes zeros.
+ * Accepted: first is the sheet's length in bytes, second the number of matched pairs.
+ * Refused:
+ *   20 the bound is above 4, part CUHNAVEL_CALL
+ *   the left book's refusal, part CUHNAVEL_LEFT_BOOK
+ *   the right book's refusal, part CUHNAVEL_RIGHT_BOOK
+ * then, part CUHNAVEL_CALL:
+ *   21 map_len is not n x m
+ *   22 room_len is below 10 + 44 x n x m
+ *   23 scratch_len is below 16 x n x m
+ */
+uint64_t cuhnavel_compare(const uint8_t *left, size_t left_len, const uint8_t *right, size_t right_len, size_t bound,
+                          uint16_t *map, size_t map_len, uint8_t *room, size_t room_len, uint8_t *scratch,
+                          size_t scratch_len);
+
 /* Truth: where the questions of a sheet are true in a book. Accepted: with q the sheet's number of entries and n the book's
  * number of cells, word k (0 to q - 1) has bit i (value 2^i) exactly when entry k is true at cell i; bits from n up are 0;
  * words from q on are as they were. Both values are 0.

@@ -5,6 +5,7 @@ ghost use Rattle.book.specs.Book.{bookAnswer, bookOutcome};
 ghost use Rattle.book.specs.BookLinks.{linksAnswer, linksOutcome};
 ghost use Rattle.sheet.specs.Sheet.{sheetAnswer, sheetOutcome};
 ghost use Rattle.truth.specs.Truth.{IsTruthCode, IsClaimCode};
+ghost use Rattle.compare.specs.Compare.{lent, IsCompareCode};
 ghost use Rattle.answers.specs.Row.{rowAnswer, rowOutcome, wordIn};
 ghost use Rattle.answers.specs.Pair.{pairAnswer, pairOutcome};
 
@@ -22,6 +23,23 @@ pub extern "C" fn cuhnavel_check_sheet(bytes: &[u8]) -> u64
     ensures { λ r. ⌜ r ≡ code (sheetOutcome (sheetAnswer (now (bytes .entry)))) ⌝ }
 {
     sheet::check_code(bytes)
+}
+
+// Compare: place i × m + j of the map becomes 0 where left cell i and right cell j of m are matched, else the number of a question that parts them;
+// the room starts with the sheet of these questions, and the scratch becomes zeros. The values are the sheet's length and the number of matched
+// pairs. Refused, all lists being as before: 20, the refusal of the left book, of the right, 21, 22 or 23.
+#[no_mangle]
+pub extern "C" fn cuhnavel_compare(
+    left: &[u8],
+    right: &[u8],
+    bound: usize,
+    map: &mut [u16],
+    room: &mut [u8],
+    scratch: &mut [u8],
+) -> u64
+    ensures { λ r. ⌜ IsCompareCode (now (left .entry)) (now (right .entry)) bound (lent (now (map .entry)) (now (room .entry)) (now (scratch .entry))) r (lent (now (map .exit)) (now (room .exit)) (now (scratch .exit))) ⌝ }
+{
+    compare::compare_code(left, right, bound, map, room, scratch)
 }
 
 // Truth: for each entry of the sheet the word of the book's cells where it is true; the other words, and on a refusal all, are as

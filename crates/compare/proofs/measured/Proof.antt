@@ -1,0 +1,73 @@
+-- `compare::measured` meets its contract. Assumes nothing.
+use borrow.Author.Needs.{needs}
+use Rattle.book.specs.Accepted.{book-long}
+use Rattle.compare.proofs.Exits.{pairs-fit, bytes-fit, room-fits, map-length, few-room, few-scratch, all-lent, scratch-lent}
+use Rattle.compare.proofs.measured.Statement.{statement}
+use Rattle.compare.proofs.measured.Tie as tie
+
+cells-of-requires : tie.Need-cells-of-requires
+cells-of-requires c κs = search book-long
+
+cells-of-requires-2 : tie.Need-cells-of-requires-2
+cells-of-requires-2 c κs = search book-long
+
+mul-pairs : tie.Need-mul-pairs
+mul-pairs c = record { fits = search pairs-fit }
+
+returns : tie.Need-returns
+returns c = search map-length
+
+mul-if2 : tie.Need-mul-if2
+mul-if2 c = record { fits = search bytes-fit }
+
+add-if2 : tie.Need-add-if2
+add-if2 c = record { fits = search room-fits }
+
+returns-2 : tie.Need-returns-2
+returns-2 c = search few-room
+
+mul-if3 : tie.Need-mul-if3
+mul-if3 c = search needs
+
+returns-3 : tie.Need-returns-3
+returns-3 c = search few-scratch
+
+served-requires : tie.Need-served-requires
+served-requires c κs =
+    let tested = c .before .before .before in
+    let counted = tested .before .before .before in
+    let n = counted .before .cells-of .ensures .0 in
+    let m = counted .cells-of2 .ensures .0 in
+    let given = counted .before .before .before .before .before .before .before .pre in
+    (all-lent _ _ _ _ n m (given .0) (given .1) _ _ _ (given .2) (tested .before .before .if1 .left) (tested .before .if2 .left), scratch-lent _ _ _ _ n m _ (tested .if3 .left))
+
+same-length : tie.Need-same-length
+same-length c = search needs
+
+same-length-2 : tie.Need-same-length-2
+same-length-2 c = search needs
+
+same-length-3 : tie.Need-same-length-3
+same-length-3 c = search needs
+
+returns-4 : tie.Need-returns-4
+returns-4 c = search needs
+
+pub measured-spec : {M : Type 1} → statement M
+measured-spec =
+    tie.close
+    (tie.spec
+    cells-of-requires
+    cells-of-requires-2
+    mul-pairs
+    returns
+    mul-if2
+    add-if2
+    returns-2
+    mul-if3
+    returns-3
+    served-requires
+    same-length
+    same-length-2
+    same-length-3
+    returns-4)

@@ -1,0 +1,130 @@
+// Compare (01): two books, pair by pair of their cells.
+ghost use mathlib.Core.Path.{_≡_};
+ghost use Prim.Native.Nat.{_*_, _^_, _≤_, _<_};
+ghost use lib.ListN.{length};
+ghost use Rattle.outcome.specs.Outcome.{code};
+ghost use Rattle.book.specs.Book.{bookRefusal};
+ghost use Rattle.comparing.specs.Comparing.{Lent};
+ghost use Rattle.compare.specs.Compare.{pairsOf, lent, compareOutcome, IsCompare, IsCompareCode};
+use outcome::OF_CALL;
+use outcome::OF_LEFT_BOOK;
+use outcome::OF_RIGHT_BOOK;
+
+// What Compare answers: the length of the sheet and how many pairs are matched; a bound above 4 (20); the refusal of a book; a map whose length is
+// not the number of pairs (21); too little room (22) or scratch (23).
+pub enum CompareAnswer {
+    Compared { sheet: u32, matched: u32 },
+    BoundAbove,
+    LeftRefused(u8),
+    RightRefused(u8),
+    MapLength,
+    FewRoom,
+    FewScratch,
+}
+
+// Compare of all that is in order: the map, the sheet's entries and its header, and the scratch.
+fn served(
+    left: &[u8],
+    right: &[u8],
+    bound: u8,
+    map: &mut [u16],
+    room: &mut [u8],
+    scratch: &mut [u8],
+) -> CompareAnswer
+    requires { ⌜ Lent (now left) (now right) bound (now map) (now room) × (16 * pairsOf (now left) (now right) ≤ length (now scratch)) ⌝ }
+    ensures { λ r. ⌜ IsCompare (now (left .entry)) (now (right .entry)) bound (lent (now (map .entry)) (now (room .entry)) (now (scratch .entry))) r (lent (now (map .exit)) (now (room .exit)) (now (scratch .exit))) ⌝ }
+{
+    let pen = comparing::fill(left, right, bound, map, room);
+    let at = pen.at;
+    sheet_writer::put_header(room, at as u32, bound, pen.next);
+    relation::clear_bytes(scratch);
+    let count = relation::zeros(map);
+    CompareAnswer::Compared {
+        sheet: at as u32,
+        matched: count as u32,
+    }
+}
+
+// Compare of two accepted books: whether enough is lent.
+fn measured(
+    left: &[u8],
+    right: &[u8],
+    bound: u8,
+    map: &mut [u16],
+    room: &mut [u8],
+    scratch: &mut [u8],
+) -> CompareAnswer
+    requires { ⌜ (bookRefusal (now left) ≡ 0) × (bookRefusal (now right) ≡ 0) × (bound ≤ 4) ⌝ }
+    ensures { λ r. ⌜ IsCompare (now (left .entry)) (now (right .entry)) bound (lent (now (map .entry)) (now (room .entry)) (now (scratch .entry))) r (lent (now (map .exit)) (now (room .exit)) (now (scratch .exit))) ⌝ }
+{
+    let pairs = book::cells_of(left) * book::cells_of(right);
+    if map.len() != pairs {
+        return CompareAnswer::MapLength;
+    }
+    if room.len() < 10 + 44 * pairs {
+        return CompareAnswer::FewRoom;
+    }
+    if scratch.len() < 16 * pairs {
+        return CompareAnswer::FewScratch;
+    }
+    served(left, right, bound, map, room, scratch)
+}
+
+// Compare: for each left cell i and right cell j of m, place i × m + j of the map becomes 0 where the two are matched, else the number of a question
+// that parts them; the room starts with the sheet of these questions, and the scratch becomes zeros. Refused, all lists being as before: 20 where the
+// bound is above 4, the left book's refusal, the right book's, 21 where the map has not one place a pair, 22 where the room is below
+// 10 + 44 bytes a pair, 23 where the scratch is below 16 bytes a pair.
+pub fn compare(
+    left: &[u8],
+    right: &[u8],
+    bound: usize,
+    map: &mut [u16],
+    room: &mut [u8],
+    scratch: &mut [u8],
+) -> CompareAnswer
+    ensures { λ r. ⌜ IsCompare (now (left .entry)) (now (right .entry)) bound (lent (now (map .entry)) (now (room .entry)) (now (scratch .entry))) r (lent (now (map .exit)) (now (room .exit)) (now (scratch .exit))) ⌝ }
+{
+    if 4 < bound {
+        return CompareAnswer::BoundAbove;
+    }
+    let refusal = book::refusal_of(left);
+    if refusal != 0 {
+        return CompareAnswer::LeftRefused(refusal);
+    }
+    let refusal = book::refusal_of(right);
+    if refusal != 0 {
+        return CompareAnswer::RightRefused(refusal);
+    }
+    measured(left, right, bound as u8, map, room, scratch)
+}
+
+// The answer as one number.
+fn compare_number(answer: CompareAnswer) -> u64
+    requires { ⌜ (compareOutcome answer .first < 2 ^ 24) × (compareOutcome answer .second < 2 ^ 24) ⌝ }
+    ensures { λ r. ⌜ r ≡ code (compareOutcome answer) ⌝ }
+{
+    match answer {
+        CompareAnswer::Compared { sheet, matched } => outcome::code(0, OF_CALL, sheet, matched),
+        CompareAnswer::BoundAbove => outcome::code(20, OF_CALL, 0, 0),
+        CompareAnswer::LeftRefused(refusal) => outcome::code(refusal, OF_LEFT_BOOK, 0, 0),
+        CompareAnswer::RightRefused(refusal) => outcome::code(refusal, OF_RIGHT_BOOK, 0, 0),
+        CompareAnswer::MapLength => outcome::code(21, OF_CALL, 0, 0),
+        CompareAnswer::FewRoom => outcome::code(22, OF_CALL, 0, 0),
+        CompareAnswer::FewScratch => outcome::code(23, OF_CALL, 0, 0),
+    }
+}
+
+// Compare, its answer as one number: the sheet's length and the count of matched pairs; the refusal of a book; or 20 to 23, of the call.
+pub fn compare_code(
+    left: &[u8],
+    right: &[u8],
+    bound: usize,
+    map: &mut [u16],
+    room: &mut [u8],
+    scratch: &mut [u8],
+) -> u64
+    ensures { λ r. ⌜ IsCompareCode (now (left .entry)) (now (right .entry)) bound (lent (now (map .entry)) (now (room .entry)) (now (scratch .entry))) r (lent (now (map .exit)) (now (room .exit)) (now (scratch .exit))) ⌝ }
+{
+    let answer = compare(left, right, bound, map, room, scratch);
+    compare_number(answer)
+}
