@@ -14,8 +14,9 @@ use lib.ListN.{length, take, drop}
 use Rattle.fields.specs.Fields.{field}
 use Rattle.outcome.specs.Outcome.{accepted, refused, code, ofLeftBook, ofCall}
 use Rattle.theory.specs.Graph.{Link, link}
-use Rattle.book.specs.Book.{lengthOf, versionOf, cellsOf, linksOf, labelWidth, linkPlace, linkIn, linkAt, orElse, countsRefusal, headRefusal, below, precedes, rises, linkRefusal, linksRefusal, bookRefusal, bookAnswer, bookOutcome, asLink}
-use Rattle.book.specs.Accepted.{headed, link-room, orElse-none, orElse-some, book-sizes, answer-accepted, answer-refused}
+use Rattle.outcome.specs.Refusals.{firstOf, first-none, first-some}
+use Rattle.book.specs.Book.{lengthOf, versionOf, cellsOf, linksOf, labelWidth, linkPlace, linkIn, linkAt, countsRefusal, headRefusal, below, precedes, rises, linkRefusal, linksRefusal, bookRefusal, bookAnswer, bookOutcome, asLink}
+use Rattle.book.specs.Accepted.{headed, link-room, book-sizes, answer-accepted, answer-refused}
 use Rattle.book.specs.Outgoing.{before-is, first-before, first-rises, part-room}
 use Rattle.book.specs.BookLinks.{firstLink, RangeOut, partFrom, linksAnswer, partOf, linksPart, linksOutcome}
 use Rattle.book.specs.declared.BookAnswer.{BookAnswer}
@@ -180,15 +181,15 @@ module _ (s : List ℕ) (e k : ℕ) (de : e ≡ linksOf s) (i : linksRefusal s 0
   links-end h = let z : e - k ≡ 0 = omega arith in sym (i ∙ rw z)
 
   module _ (h : k < e) (r : ℕ) (dr : r ≡ linkRefusal s k) where
-    turn : linksRefusal s 0 (linksOf s) ≡ orElse r (linksRefusal s (k + 1) (e - (k + 1)))
+    turn : linksRefusal s 0 (linksOf s) ≡ firstOf r (linksRefusal s (k + 1) (e - (k + 1)))
     unfolding linksRefusal
     turn = let z : e - k ≡ suc (e - (k + 1)) = omega arith in i ∙ rw (z, dr, add-one k)
 
     pub links-stop : (r ≡ 0 → ⊥) → r ≡ linksRefusal s 0 (linksOf s)
-    links-stop f = sym (turn ∙ orElse-some r _ f)
+    links-stop f = sym (turn ∙ first-some r _ f)
 
     pub links-next : r ≡ 0 → linksRefusal s 0 (linksOf s) ≡ linksRefusal s (k + 1) (e - (k + 1))
-    links-next z = turn ∙ orElse-none r _ z
+    links-next z = turn ∙ first-none r _ z
 
 pub links-start : (s : List ℕ) (e : ℕ) → e ≡ linksOf s → linksRefusal s 0 (linksOf s) ≡ linksRefusal s 0 (e - 0)
 links-start s e de = let z : linksOf s ≡ e - 0 = omega arith in rw z
@@ -197,7 +198,7 @@ links-start s e de = let z : linksOf s ≡ e - 0 = omega arith in rw z
 module _ (s : List ℕ) (h : ℕ) (d : h ≡ headRefusal s) where
   pub refusal-head : (h ≡ 0 → ⊥) → h ≡ bookRefusal s
   unfolding bookRefusal
-  refusal-head f = rw (← d) (sym (orElse-some h _ f))
+  refusal-head f = rw (← d) (sym (first-some h _ f))
 
   module _ (z : h ≡ 0) where
     pub head-none : headRefusal s ≡ 0
@@ -205,7 +206,7 @@ module _ (s : List ℕ) (h : ℕ) (d : h ≡ headRefusal s) where
 
     pub refusal-links : (r : ℕ) → r ≡ linksRefusal s 0 (linksOf s) → r ≡ bookRefusal s
     unfolding bookRefusal
-    refusal-links r dr = rw (← d) (dr ∙ sym (orElse-none h _ z))
+    refusal-links r dr = rw (← d) (dr ∙ sym (first-none h _ z))
 
 -- ---- an accepted book
 module _ (s : List ℕ) (r : ℕ) (d : r ≡ bookRefusal s) where

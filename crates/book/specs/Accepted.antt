@@ -6,36 +6,16 @@ use mathlib.Core.List.{List}
 use Prim.Native.Nat.{ℕ, zero, suc, _+_, _*_, _≤_, _<_, suc-le-suc}
 use native.Mathlib.Nat.{mul-le-mul-left, le-of-suc-le-suc, eq-or-lt-of-le, le-refl}
 use native.Mathlib.Omega.{arith}
-use borrow.Author.Tests.{ltb-true, ltb-false, leb-false, eqb-true, lt-ltb, eq-eqb, ne-eqb}
+use borrow.Author.Tests.{ltb-false, leb-false, eqb-true, eq-eqb, ne-eqb}
 use lib.Dec.{eqb, ltb, leb}
 use lib.ListN.{length, getD}
-use Rattle.theory.specs.Tests.{and-iff, or-iff, sum-iff, eqb-iff, list-at}
+use Rattle.outcome.specs.Refusals.{first-zero, passed}
+use Rattle.theory.specs.Tests.{and-iff, or-iff, sum-iff, eqb-iff, ltb-iff, list-at}
 use Rattle.theory.specs.Search.{list}
 use Rattle.theory.specs.Graph.{Comparison, same, differ, Link, Inside, WellFormed, compared}
-use Rattle.book.specs.Book.{lengthOf, versionOf, cellsOf, linksOf, recordingAt, labelWidth, linkWidth, linkPlace, linkAt, orElse, countsRefusal, headRefusal, below, precedes, rises, linkRefusal, linksRefusal, bookRefusal, bookAnswer}
+use Rattle.book.specs.Book.{lengthOf, versionOf, cellsOf, linksOf, recordingAt, labelWidth, linkWidth, linkPlace, linkAt, countsRefusal, headRefusal, below, precedes, rises, linkRefusal, linksRefusal, bookRefusal, bookAnswer}
 use Rattle.book.specs.BookGraph.{dataValue, graphOf}
 use Rattle.book.specs.declared.BookAnswer.the-variants.{Accepted, Refused}
-
--- ---- refusals
-pub orElse-none : (a b : ℕ) → a ≡ 0 → orElse a b ≡ b
-unfolding orElse
-orElse-none zero b e = refl
-orElse-none (suc a) b e = absurd (omega arith)
-
-pub orElse-some : (a b : ℕ) → (a ≡ 0 → ⊥) → orElse a b ≡ a
-unfolding orElse
-orElse-some zero b f = absurd (f refl)
-orElse-some (suc a) b f = refl
-
-pub orElse-zero : (a b : ℕ) → orElse a b ≡ 0 → (a ≡ 0) × (b ≡ 0)
-unfolding orElse
-orElse-zero zero b e = (refl, e)
-orElse-zero (suc a) b e = absurd (omega arith)
-
--- a refusal that is not given does not apply, and neither do the later ones
-passed : (t : Bool) (r : ℕ) {x : ℕ} → cond t (suc r) x ≡ 0 → (t ≡ false) × (x ≡ 0)
-passed true r e = absurd (omega arith)
-passed false r e = (refl, e)
 
 not-false : (t : Bool) → not t ≡ false → So t
 not-false true e = refl
@@ -90,9 +70,6 @@ Below m n rest = (m < n) ⊎ ((m ≡ n) × rest)
 -- "strictly rising as triples"
 abbrev pub Precedes : Link → Link → Type 0
 Precedes j k = Below (j .from) (k .from) (Below (j .label) (k .label) (j .to < k .to))
-
-ltb-iff : (m n : ℕ) → So (ltb m n) ↔ (m < n)
-ltb-iff m n = (ltb-true m n, lt-ltb m n)
 
 pair-iff : {A B C D : Type 0} → A ↔ C → B ↔ D → (A × B) ↔ (C × D)
 pair-iff f g = (λ (a, b). (f .0 a, g .0 b), λ (c, d). (f .1 c, g .1 d))
@@ -149,18 +126,18 @@ each-passes : (s : List ℕ) (k left : ℕ) → linksRefusal s k left ≡ 0 → 
 unfolding linksRefusal
 each-passes s k zero h i l m = absurd (omega arith)
 each-passes s k (suc left) h i l m =
-    let (first, rest) = orElse-zero (linkRefusal s k) _ h in
+    let (first, rest) = first-zero (linkRefusal s k) h in
     ⊎-elim (λ e. rw (← e) first) (λ n. each-passes s (suc k) left rest i n (omega arith)) (eq-or-lt-of-le l)
 
 -- ---- an accepted book
 -- its header is not refused, and none of its links
 pub accepted-head : (s : List ℕ) → bookRefusal s ≡ 0 → headRefusal s ≡ 0
 unfolding bookRefusal
-accepted-head s r = orElse-zero (headRefusal s) _ r .0
+accepted-head s r = first-zero (headRefusal s) r .0
 
 pub accepted-links : (s : List ℕ) → bookRefusal s ≡ 0 → linksRefusal s 0 (linksOf s) ≡ 0
 unfolding bookRefusal
-accepted-links s r = orElse-zero (headRefusal s) _ r .1
+accepted-links s r = first-zero (headRefusal s) r .1
 
 -- its sizes
 pub book-sizes : (s : List ℕ) → bookRefusal s ≡ 0 → Headed s

@@ -6,6 +6,7 @@ use lib.Dec.{eqb, ltb, leb}
 use lib.ListN.{length}
 use Rattle.fields.specs.Fields.{field}
 use Rattle.outcome.specs.Outcome.{Outcome, accepted, refused, ofLeftBook}
+use Rattle.outcome.specs.Refusals.{firstOf}
 use Rattle.theory.specs.Graph.{Link, link}
 use Rattle.book.specs.declared.BookAnswer.{BookAnswer}
 use Rattle.book.specs.declared.BookAnswer.the-variants.{Accepted, Refused}
@@ -55,11 +56,6 @@ linkIn w s at = link (field 1 s at) (field w s (at + 1)) (field 1 s (at + 1 + w)
 unfoldable pub linkAt : List ℕ → ℕ → Link
 linkAt s k = linkIn (labelWidth s) s (linkPlace s k)
 
--- The first of two refusals that applies, where 0 is none.
-unfoldable pub orElse : ℕ → ℕ → ℕ
-orElse zero r = r
-orElse (suc r) _ = suc r
-
 -- "4: n or e out of range. 5: L breaks the formula", L = 8 + 4 × n + 3 × e. 0: neither.
 unfoldable pub countsRefusal : List ℕ → ℕ
 countsRefusal s =
@@ -95,11 +91,11 @@ linkRefusal s k =
 -- "Link by link from the front": the first refusal of `left` links from link k on.
 unfoldable pub linksRefusal : List ℕ → ℕ → ℕ → ℕ
 linksRefusal s k zero = 0
-linksRefusal s k (suc left) = orElse (linkRefusal s k) (linksRefusal s (suc k) left)
+linksRefusal s k (suc left) = firstOf (linkRefusal s k) (linksRefusal s (suc k) left)
 
 -- The refusal of a book, 0 where it is accepted.
 unfoldable pub bookRefusal : List ℕ → ℕ
-bookRefusal s = orElse (headRefusal s) (linksRefusal s 0 (linksOf s))
+bookRefusal s = firstOf (headRefusal s) (linksRefusal s 0 (linksOf s))
 
 -- "Check a book gives n and e", or the first refusal that applies.
 unfoldable pub bookAnswer : List ℕ → BookAnswer

@@ -7,7 +7,7 @@ use Rattle.fields.specs.Fields.{field}
 use Rattle.outcome.specs.Outcome.{Outcome, accepted, refused, ofCall, ofLeftBook}
 use Rattle.theory.specs.Search.{list}
 use Rattle.theory.specs.Graph.{link}
-use Rattle.book.specs.Book.{recordingAt, labelWidth, linkIn, linkAt, orElse, countsRefusal, headRefusal, below, precedes, rises, linkRefusal, linksRefusal, bookRefusal, bookAnswer, bookOutcome}
+use Rattle.book.specs.Book.{recordingAt, labelWidth, linkIn, linkAt, countsRefusal, headRefusal, below, precedes, rises, linkRefusal, linksRefusal, bookRefusal, bookAnswer, bookOutcome}
 use Rattle.book.specs.BookGraph.{graphOf}
 use Rattle.book.specs.BookLinks.{linksBefore, firstLink, partFrom, linksAnswer, partOf, linksPart, linksOutcome}
 
@@ -57,7 +57,7 @@ rows =
 
 -- Every answer is the one wanted.
 pub rows-hold : map (λ (r : Row). r .answer) rows ≡ map (λ (r : Row). r .wanted) rows
-unfolding rows leftBook rightBook bookAnswer bookRefusal headRefusal countsRefusal linksRefusal linkRefusal rises precedes below orElse linkAt linkIn labelWidth field linksAnswer partFrom firstLink linksBefore list
+unfolding rows leftBook rightBook bookAnswer bookRefusal headRefusal countsRefusal linksRefusal linkRefusal rises precedes below linkAt linkIn labelWidth field linksAnswer partFrom firstLink linksBefore list
 rows-hold = refl
 
 -- The graph of A's left book, and of its right.
@@ -71,5 +71,5 @@ rightBook-graph = (refl, refl, refl)
 
 -- The part that holds the links of A's left cell 0.
 pub leftBook-part : linksPart leftBook 0 ≡ 0 ∷ 1 ∷ 1 ∷ 0 ∷ 1 ∷ 2 ∷ []
-unfolding leftBook partOf linksAnswer partFrom firstLink linksBefore bookRefusal headRefusal countsRefusal linksRefusal linkRefusal rises precedes below orElse linkAt linkIn labelWidth field list
+unfolding leftBook partOf linksAnswer partFrom firstLink linksBefore bookRefusal headRefusal countsRefusal linksRefusal linkRefusal rises precedes below linkAt linkIn labelWidth field list
 leftBook-part = refl

@@ -13,7 +13,7 @@ use lib.ListN.{length, take, drop, length-drop}
 use lib.Seq.{length-take-le}
 use Rattle.fields.specs.Fields.{field}
 use Rattle.fields.specs.Laws.{field-take, field-drop}
-use Rattle.theory.specs.Tests.{list-ext}
+use Rattle.theory.specs.Tests.{list-ext, length-list}
 use Rattle.theory.specs.Search.{list}
 use Rattle.theory.specs.Graph.{Link}
 use Rattle.theory.specs.Path.{out}
@@ -106,11 +106,6 @@ book-out s r x =
     run-out (linksOf s) (linkAt s) x (firstLink s x) (countOut s x) (omega (arith, b .most))
     (λ j p q. omega (arith, from-first s r x j p (omega (arith, b .most)), b .below j (omega arith)))
     (λ j p q e. ⊎-elim (λ h. omega (arith, a .below j h)) (λ h. omega (arith, from-first s r (x + 1) j (omega arith) p)) q)
-
-length-list : {A : Type 0} (n : ℕ) (f : ℕ → A) → length (list n f) ≡ n
-unfolding list
-length-list zero f = refl
-length-list (suc n) f = ap suc (length-list n (λ i. f (suc i)))
 
 -- so their number is that of the links
 pub count-out : (s : List ℕ) → bookRefusal s ≡ 0 → (x : ℕ) → countOut s x ≡ length (out (graphOf s .links) x)

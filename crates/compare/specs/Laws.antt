@@ -1,15 +1,15 @@
 -- When Compare declines and when it does not, and what its values are at most. Assumes nothing.
-use mathlib.Core.Bool.{Bool, true, false, not, cond}
+use mathlib.Core.Bool.{not}
 use mathlib.Core.List.{List}
-use mathlib.Core.Path.{_≡_, refl, sym, _∙_}
+use mathlib.Core.Path.{_≡_, sym, _∙_}
 use Prim.Native.Nat.{ℕ, _+_, _*_, _≤_}
 use native.Mathlib.Nat.{mul-le-mul}
 use native.Mathlib.Omega.{arith}
 use borrow.Author.Tests.{le-ltb, ltb-false, eq-eqb, eqb-true, not-false}
 use lib.Dec.{eqb, ltb}
+use Rattle.outcome.specs.Refusals.{passed-by}
 use Rattle.book.specs.Book.{bookRefusal}
 use Rattle.book.specs.Accepted.{book-sizes}
-use Rattle.compare.specs.declared.CompareAnswer.{CompareAnswer}
 use Rattle.compare.specs.declared.CompareAnswer.the-variants as says
 use Rattle.compare.specs.Compare.{pairsOf, lentAnswer, compareAnswer}
 
@@ -21,12 +21,6 @@ pub record Accepts (l r : List ℕ) (c places room scratch : ℕ) : Type 0 where
   pub map : places ≡ pairsOf l r
   pub roomy : 10 + 44 * pairsOf l r ≤ room
   pub spare : 16 * pairsOf l r ≤ scratch
-
--- a refusal that is not given does not apply
-passed : (t : Bool) {x y : CompareAnswer} {sheet count : ℕ} → (x ≡ says.Compared sheet count → ⊥) → cond t x y ≡ says.Compared sheet count
-    → (t ≡ false) × (y ≡ says.Compared sheet count)
-passed true f e = absurd (f e)
-passed false f e = (refl, e)
 
 module _ (l r : List ℕ) (c places room scratch sheet count : ℕ) where
   -- where only what is lent is still to be judged
@@ -47,12 +41,12 @@ module _ (l r : List ℕ) (c places room scratch sheet count : ℕ) where
       → Accepts l r c places room scratch × (sheet′ ≡ sheet) × (count′ ≡ count)
   unfolding compareAnswer lentAnswer
   compared-accepts sheet′ count′ h =
-      let (bound, h1) = passed (ltb 4 c) (λ e. let z : _≡_ {A = ℕ} 0 1 = cc in omega arith) (sym h) in
-      let (left, h2) = passed (not (eqb (bookRefusal l) 0)) (λ e. let z : _≡_ {A = ℕ} 0 1 = cc in omega arith) h1 in
-      let (right, h3) = passed (not (eqb (bookRefusal r) 0)) (λ e. let z : _≡_ {A = ℕ} 0 1 = cc in omega arith) h2 in
-      let (map, h4) = passed (not (eqb places (pairsOf l r))) (λ e. let z : _≡_ {A = ℕ} 0 1 = cc in omega arith) h3 in
-      let (roomy, h5) = passed (ltb room (10 + 44 * pairsOf l r)) (λ e. let z : _≡_ {A = ℕ} 0 1 = cc in omega arith) h4 in
-      let (spare, h6) = passed (ltb scratch (16 * pairsOf l r)) (λ e. let z : _≡_ {A = ℕ} 0 1 = cc in omega arith) h5 in (
+      let (bound, h1) = passed-by (ltb 4 c) (λ e. let z : _≡_ {A = ℕ} 0 1 = cc in omega arith) (sym h) in
+      let (left, h2) = passed-by (not (eqb (bookRefusal l) 0)) (λ e. let z : _≡_ {A = ℕ} 0 1 = cc in omega arith) h1 in
+      let (right, h3) = passed-by (not (eqb (bookRefusal r) 0)) (λ e. let z : _≡_ {A = ℕ} 0 1 = cc in omega arith) h2 in
+      let (map, h4) = passed-by (not (eqb places (pairsOf l r))) (λ e. let z : _≡_ {A = ℕ} 0 1 = cc in omega arith) h3 in
+      let (roomy, h5) = passed-by (ltb room (10 + 44 * pairsOf l r)) (λ e. let z : _≡_ {A = ℕ} 0 1 = cc in omega arith) h4 in
+      let (spare, h6) = passed-by (ltb scratch (16 * pairsOf l r)) (λ e. let z : _≡_ {A = ℕ} 0 1 = cc in omega arith) h5 in (
         record {
           bound = ltb-false _ _ bound;
           left = eqb-true _ _ (not-false _ left);

@@ -12,18 +12,13 @@ use lib.ListN.{length, getD, set, length-set, getD-replicate, length-replicate}
 use lib.Pow.{pow-pos, pow-lt}
 use lib.Seq.{getD-set-same, getD-set-other}
 use Rattle.theory.specs.Search.{any, list}
-use Rattle.theory.specs.Tests.{any-iff, and-iff, or-iff, test-eq, test-fails, list-at, list-ext, facts}
+use Rattle.theory.specs.Tests.{any-iff, any-ext, and-iff, or-iff, test-eq, test-fails, list-at, list-ext, facts}
 use Rattle.theory.specs.Graph.{Graph, Link, Inside, WellFormed, has, linked}
 use Rattle.words.specs.Words.{bit, wordOf}
 use Rattle.words.specs.Laws.{bit-zero, bit-or, bit-with, bit-without, meet-zero-iff, bit-wordOf, bit-wordOf-lt, wordOf-lt, wordOf-is}
 use Rattle.edges.specs.Edges.{edgeAt, edges, turn, turned, Held, image, gather, emptyRows, rowsTo, meets, anyPasses, Rows}
 
 -- ---- searches
-pub any-ext : (n : ℕ) (p q : ℕ → Bool) → ((i : ℕ) → i < n → p i ≡ q i) → any n p ≡ any n q
-unfolding any
-any-ext zero p q f = refl
-any-ext (suc n) p q f = ap₂ _||_ (f n (omega arith)) (any-ext n p q (λ i l. f i (omega arith)))
-
 any-none : (n : ℕ) → any n (λ x. false) ≡ false
 unfolding any
 any-none zero = refl

@@ -1,12 +1,10 @@
 -- What a caller cites that has read two accepted books: their lists show their graphs. Assumes nothing.
 use mathlib.Core.Bool.{true, not}
-use mathlib.Core.Path.{_≡_, sym, ap, _∙_}
+use mathlib.Core.Path.{_≡_, ap, _∙_}
 use mathlib.Core.List.{List}
 use Prim.Native.Nat.{ℕ, _<_}
-use borrow.Author.Tests.{eqb-true, eq-eqb}
-use lib.Dec.{eqb}
 use lib.ListN.{getD}
-use Rattle.theory.specs.Tests.{test-eq}
+use Rattle.theory.specs.Tests.{eqb-turn}
 use Rattle.theory.specs.Graph.{Comparison, same, differ, compared}
 use Rattle.theory.specs.Bisimulation.{Relation}
 use Rattle.words.specs.Words.{bit}
@@ -31,9 +29,6 @@ pub record Read (s fs ls ts starts ends : List ℕ) : Type 0 where
   pub rows : Paired (passing s same) (passing s differ) ends
 
 -- a comparison of data values is the same from both sides
-eqb-turn : (m n : ℕ) → eqb m n ≡ eqb n m
-eqb-turn m n = test-eq _ _ (λ e. eq-eqb n m (sym (eqb-true m n e))) (λ e. eq-eqb m n (sym (eqb-true n m e)))
-
 pub compared-even : (value : ℕ → ℕ) (t : Comparison) (x y : ℕ) → compared value t x y ≡ true → compared value t y x ≡ true
 unfolding compared
 compared-even value same x y e = eqb-turn (value y) (value x) ∙ e

@@ -12,7 +12,7 @@ use lib.Dec.{eqb}
 use lib.ListN.{length, getD}
 use lib.Pow.{pow-lt}
 use Rattle.theory.specs.Search.{any}
-use Rattle.theory.specs.Tests.{any-iff, and-iff, append-iff, test-eq}
+use Rattle.theory.specs.Tests.{any-ext, any-iff, and-iff, append-iff, test-eq}
 use Rattle.theory.specs.Graph.{Comparison, Graph, linked}
 use Rattle.theory.specs.Path.{Hop, Path, Walk, end}
 use Rattle.theory.specs.Walks.{linked-inside, end-inside}
@@ -22,7 +22,7 @@ use Rattle.theory.specs.Follow.{follow-below}
 use Rattle.words.specs.Words.{bit}
 use Rattle.words.specs.Laws.{bit-and, bit-pow, zero-iff}
 use Rattle.edges.specs.Edges.{meets}
-use Rattle.edges.specs.Laws.{any-ext, meets-zero}
+use Rattle.edges.specs.Laws.{meets-zero}
 use Rattle.hops.specs.Hops.{View, startOf, labelOf, toOf, hopAt, hopsFrom, hopsOf}
 use Rattle.hops.specs.Sets.{among, reached, spread, imageOf, rowAt}
 use Rattle.hops.specs.Laws.{among-iff, linked-among, bit-reached, bit-spread, spread-lt}

@@ -10,7 +10,8 @@ use borrow.Author.Tests.{lt-ltb, le-ltb}
 use lib.Dec.{eqb, ltb}
 use lib.ListN.{getD}
 use Rattle.sheet.specs.Entry.{Step, entryWith, tests, numbers, mostSteps}
-use Rattle.sheet.specs.Sheet.{stepWidth, numberAt, stepAt, stepsAt, stepCounts, entryOf, firstOf, tooLarge, required, numbersRefusal, bodyRefusal}
+use Rattle.outcome.specs.Refusals.{firstOf}
+use Rattle.sheet.specs.Sheet.{stepWidth, numberAt, stepAt, stepsAt, stepCounts, entryOf, tooLarge, required, numbersRefusal, bodyRefusal}
 
 -- ---- the numbers in an entry
 

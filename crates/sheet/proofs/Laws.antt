@@ -9,7 +9,8 @@ use borrow.Author.Tests.{lt-ltb, le-ltb, le-leb, lt-leb, eq-eqb, ne-eqb}
 use lib.Dec.{ltb}
 use lib.ListN.{length, getD}
 use Rattle.sheet.specs.Entry.{kindOf, firstWay, secondWay, stepIn, tests, numbers, mostSteps}
-use Rattle.sheet.specs.Sheet.{lengthOf, boundOf, countOf, numberAt, stepsAt, entryAt, nextAt, entryStart, firstOf, headRefusal, stepCounts, numbersRefusal, bodyRefusal, kindRefusal, entryRefusal, entriesRefusal, sheetRefusal, sheetAnswer, sheetOutcome, labelWidth, stepWidth, versionOf, headSize, mostBound, mostEntries, mostKind}
+use Rattle.outcome.specs.Refusals.{firstOf}
+use Rattle.sheet.specs.Sheet.{lengthOf, boundOf, countOf, numberAt, stepsAt, entryAt, nextAt, entryStart, headRefusal, stepCounts, numbersRefusal, bodyRefusal, kindRefusal, entryRefusal, entriesRefusal, sheetRefusal, sheetAnswer, sheetOutcome, labelWidth, stepWidth, versionOf, headSize, mostBound, mostEntries, mostKind}
 use Rattle.fields.specs.Fields.{field}
 use Rattle.sheet.specs.Accepted.{entryStart-next}
 use Rattle.sheet.specs.Reading.{Readable, HasNumber, HasWay, HasStep, Reads, stepsOf, firstPlace, secondPlace, readable, kind-read, number-read, first-reads, second-two, second-reads, steps-in}

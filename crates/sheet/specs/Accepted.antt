@@ -13,7 +13,8 @@ use Rattle.theory.specs.Bound.{Within}
 use Rattle.sheet.specs.Entry.{truth, entryWith, kindOf, numbers, Short, Below, WellFormedEntry, WellFormedFrom, WellFormed, spell, expressions}
 use Rattle.sheet.specs.Expressions.{expression-within, expression-is}
 use Rattle.sheet.specs.Sheet.{boundOf, countOf, headSize, mostKind, stepWidth, stepsAt, entryOf, entryAt, nextAt, entriesAt, startFrom, entriesOf, entryStart, questionOf, tooLarge, numbersRefusal, entryRefusal, entriesRefusal, sheetRefusal, sheetAnswer}
-use Rattle.sheet.specs.Passed.{Standing, standing, skip, skip-first, accepted-head, accepted-entries}
+use Rattle.outcome.specs.Refusals.{first-zero, passed}
+use Rattle.sheet.specs.Passed.{Standing, standing, accepted-head, accepted-entries}
 use Rattle.sheet.specs.declared.SheetAnswer.the-variants.{Accepted, Refused}
 
 -- ---- an entry that stands is well-formed
@@ -76,7 +77,7 @@ module _ (s : List ℕ) (c : ℕ) where
   -- the first entry stands, and the others are not refused
   first-and-rest : (n at q : ℕ) → entriesRefusal s c n at (suc q) ≡ 0 → Standing s c n at × (entriesRefusal s c (n + 1) (nextAt s at) q ≡ 0)
   unfolding entriesRefusal
-  first-and-rest n at q h = let (a, b) = skip-first (entryRefusal s c n at) h in (standing s c n at a, b)
+  first-and-rest n at q h = let (a, b) = first-zero (entryRefusal s c n at) h in (standing s c n at a, b)
 
   entries-well-formed : (n at q : ℕ) → entriesRefusal s c n at q ≡ 0 → WellFormedFrom c n (entriesAt s at q)
   unfolding WellFormedFrom entriesAt
@@ -95,7 +96,7 @@ module _ (s : List ℕ) (c : ℕ) where
 
   entries-end : (n at q : ℕ) → entriesRefusal s c n at q ≡ 0 → at ≤ length s → startFrom s at q ≡ length s
   unfolding entriesRefusal startFrom
-  entries-end n at zero h l = let e : length s ≤ at = ltb-false at (length s) (skip (ltb at (length s)) 8 h .0) in omega arith
+  entries-end n at zero h l = let e : length s ≤ at = ltb-false at (length s) (passed (ltb at (length s)) 8 h .0) in omega arith
   entries-end n at (suc q) h l =
       let (a, b) = first-and-rest n at q h in
       entries-end (n + 1) (nextAt s at) q b (let i = a .inside in omega arith)

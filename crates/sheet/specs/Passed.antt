@@ -1,27 +1,15 @@
 -- What the check passes: a header, a body and an entry that are not refused, and an accepted sheet's parts.
-use mathlib.Core.Bool.{Bool, true, false, cond, not, _&&_}
+use mathlib.Core.Bool.{Bool, false, not, _&&_}
 use mathlib.Core.List.{List}
 use mathlib.Core.Path.{_≡_, refl, _∙_}
-use Prim.Native.Nat.{ℕ, zero, suc, _+_, _-_, _≤_, _<_}
+use Prim.Native.Nat.{ℕ, _+_, _-_, _≤_, _<_}
 use native.Mathlib.Omega.{arith}
-use borrow.Author.Tests.{eq-eqb, ne-eqb, ltb-false, leb-false, eqb-true, eqb-false, not-false}
+use borrow.Author.Tests.{eq-eqb, ltb-false, leb-false, eqb-true, eqb-false, not-false}
 use lib.Dec.{eqb, ltb, leb}
 use lib.ListN.{length, getD}
+use Rattle.outcome.specs.Refusals.{first-zero, passed, passed-not}
 use Rattle.sheet.specs.Entry.{numbers}
-use Rattle.sheet.specs.Sheet.{lengthOf, versionOf, boundOf, countOf, headSize, mostBound, mostEntries, mostKind, stepCounts, entryOf, firstOf, headRefusal, tooLarge, required, numbersRefusal, bodyRefusal, kindRefusal, entryRefusal, entriesRefusal, sheetRefusal}
-
--- a test that is passed by, on the way to 0
-pub skip : (b : Bool) (k : ℕ) {x : ℕ} → cond b (suc k) x ≡ 0 → (b ≡ false) × (x ≡ 0)
-skip true k e = absurd (omega arith)
-skip false k e = (refl, e)
-
-skip-not : (b : Bool) (k : ℕ) {x : ℕ} → cond (not b) (suc k) x ≡ 0 → (b ≡ true) × (x ≡ 0)
-skip-not true k e = (refl, e)
-skip-not false k e = absurd (omega arith)
-
-pub skip-first : (r : ℕ) {x : ℕ} → firstOf r x ≡ 0 → (r ≡ 0) × (x ≡ 0)
-skip-first zero e = (refl, e)
-skip-first (suc r) e = absurd (omega (arith, simp (ne-eqb (suc r) 0 (λ p. omega arith)) at e))
+use Rattle.sheet.specs.Sheet.{lengthOf, versionOf, boundOf, countOf, headSize, mostBound, mostEntries, mostKind, stepCounts, entryOf, headRefusal, tooLarge, required, numbersRefusal, bodyRefusal, kindRefusal, entryRefusal, entriesRefusal, sheetRefusal}
 
 positive : (q : ℕ) → (q ≡ 0 → ⊥) → 1 ≤ q
 positive q f = omega arith
@@ -38,12 +26,12 @@ pub record Headed (s : List ℕ) : Type 0 where
 pub headed : (s : List ℕ) → headRefusal s ≡ 0 → Headed s
 unfolding headRefusal
 headed s h =
-    let a = skip (ltb (length s) headSize) 0 h in
-    let b = skip-not (eqb (lengthOf s) (length s)) 1 (a .1) in
-    let d = skip-not (eqb (versionOf s) 1) 2 (b .1) in
-    let e = skip (ltb mostBound (boundOf s)) 7 (d .1) in
-    let f = skip (eqb (countOf s) 0) 7 (e .1) in
-    let g = skip (ltb mostEntries (countOf s)) 7 (f .1) in
+    let a = passed (ltb (length s) headSize) 0 h in
+    let b = passed-not (eqb (lengthOf s) (length s)) 1 (a .1) in
+    let d = passed-not (eqb (versionOf s) 1) 2 (b .1) in
+    let e = passed (ltb mostBound (boundOf s)) 7 (d .1) in
+    let f = passed (eqb (countOf s) 0) 7 (e .1) in
+    let g = passed (ltb mostEntries (countOf s)) 7 (f .1) in
     let n = eqb-false _ _ (f .0) in
     record {
       eight = ltb-false _ _ (a .0);
@@ -63,9 +51,9 @@ pub record Sized (s : List ℕ) (c n kind at size : ℕ) : Type 0 where
 sized : (s : List ℕ) (c n kind at size : ℕ) → bodyRefusal s c n kind at size ≡ 0 → Sized s c n kind at size
 unfolding bodyRefusal
 sized s c n kind at size h =
-    let a = skip (ltb size (stepCounts kind)) 13 h in
-    let b = skip (tooLarge c kind s at) 10 (a .1) in
-    let d = skip-not (eqb size (required kind s at)) 13 (b .1) in
+    let a = passed (ltb size (stepCounts kind)) 13 h in
+    let b = passed (tooLarge c kind s at) 10 (a .1) in
+    let d = passed-not (eqb size (required kind s at)) 13 (b .1) in
     record { small = b .0; exact = eqb-true _ _ (d .0); earlier = d .1 }
 
 -- An entry n that starts at `at` and is not refused.
@@ -79,8 +67,8 @@ pub record Standing (s : List ℕ) (c n at : ℕ) : Type 0 where
 pub kind-passed : (n kind : ℕ) → kindRefusal n kind ≡ 0 → (kind ≤ mostKind) × (n ≡ 0 → kind ≡ 0)
 unfolding kindRefusal
 kind-passed n kind h =
-    let a = skip (ltb mostKind kind) 9 h in
-    let b = skip (eqb n 0 && not (eqb kind 0)) 12 (a .1) in
+    let a = passed (ltb mostKind kind) 9 h in
+    let b = passed (eqb n 0 && not (eqb kind 0)) 12 (a .1) in
     (ltb-false _ _ (a .0), λ z. only (eqb kind 0) refl (simp (eq-eqb n 0 z) at (b .0)))
   where
     only : (b : Bool) → eqb kind 0 ≡ b → not b ≡ false → kind ≡ 0
@@ -89,10 +77,10 @@ kind-passed n kind h =
 pub standing : (s : List ℕ) (c n at : ℕ) → entryRefusal s c n at ≡ 0 → Standing s c n at
 unfolding entryRefusal
 standing s c n at h =
-    let a = skip (leb (length s) at) 8 h in
-    let b = skip (eqb (getD s at 0) 0) 8 (a .1) in
-    let d = skip (leb (length s) (at + getD s at 0)) 8 (b .1) in
-    let e = skip-first (kindRefusal n (getD s (at + 1) 0)) (d .1) in
+    let a = passed (leb (length s) at) 8 h in
+    let b = passed (eqb (getD s at 0) 0) 8 (a .1) in
+    let d = passed (leb (length s) (at + getD s at 0)) 8 (b .1) in
+    let e = first-zero (kindRefusal n (getD s (at + 1) 0)) (d .1) in
     let k = kind-passed n (getD s (at + 1) 0) (e .0) in
     let f = eqb-false _ _ (b .0) in
     record {
@@ -107,8 +95,8 @@ standing s c n at h =
 
 pub accepted-head : (s : List ℕ) → sheetRefusal s ≡ 0 → Headed s
 unfolding sheetRefusal
-accepted-head s h = headed s (skip-first (headRefusal s) h .0)
+accepted-head s h = headed s (first-zero (headRefusal s) h .0)
 
 pub accepted-entries : (s : List ℕ) → sheetRefusal s ≡ 0 → entriesRefusal s (boundOf s) 0 headSize (countOf s) ≡ 0
 unfolding sheetRefusal
-accepted-entries s h = skip-first (headRefusal s) h .1
+accepted-entries s h = first-zero (headRefusal s) h .1

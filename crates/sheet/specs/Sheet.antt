@@ -6,6 +6,7 @@ use lib.Dec.{eqb, ltb, leb}
 use lib.ListN.{length, getD}
 use Rattle.fields.specs.Fields.{field}
 use Rattle.outcome.specs.Outcome.{Outcome, accepted, refused, ofSheet}
+use Rattle.outcome.specs.Refusals.{firstOf}
 use Rattle.theory.specs.Expression.{NodeExpr}
 use Rattle.sheet.specs.Entry.{Step, Entry, entryWith, expression, numbers, mostSteps}
 use Rattle.sheet.specs.declared.SheetAnswer.{SheetAnswer}
@@ -130,10 +131,6 @@ abbrev pub questionOf : List ℕ → ℕ → NodeExpr
 questionOf s k = expression (entriesOf s) k
 
 -- ---- the check: each refusal below is 0 where there is none
-
--- "The first that applies is given": a refusal, else what follows.
-abbrev pub firstOf : ℕ → ℕ → ℕ
-firstOf r rest = cond (eqb r 0) rest r
 
 -- The refusal of the header. "1: fewer than 8 bytes. 2: L is not the number of bytes lent. 3: version.
 -- 8: c or q out of range."

@@ -15,7 +15,8 @@ use Rattle.theory.specs.Graph.{Comparison, same, differ}
 use Rattle.theory.specs.Tests.{test-eq}
 use Rattle.sheet.specs.Entry.{Step, Entry, entryWith, kindOf, truth, negation, conjunction, disjunction, way, comparison, expression, tests, numbers, Short, Below, WellFormedEntry, WellFormedFrom, WellFormed, mostSteps}
 use Rattle.sheet.specs.Expressions.{below-append, well-formed-snoc}
-use Rattle.sheet.specs.Sheet.{boundOf, countOf, lengthOf, versionOf, headSize, mostBound, mostEntries, mostKind, labelWidth, numberWidth, stepWidth, numberAt, stepsAt, entryOf, entryAt, nextAt, entriesAt, entriesOf, questionOf, firstOf, headRefusal, stepCounts, tooLarge, required, numbersRefusal, bodyRefusal, kindRefusal, entryRefusal, entriesRefusal, sheetRefusal, sheetAnswer}
+use Rattle.outcome.specs.Refusals.{firstOf}
+use Rattle.sheet.specs.Sheet.{boundOf, countOf, lengthOf, versionOf, headSize, mostBound, mostEntries, mostKind, labelWidth, numberWidth, stepWidth, numberAt, stepsAt, entryOf, entryAt, nextAt, entriesAt, entriesOf, questionOf, headRefusal, stepCounts, tooLarge, required, numbersRefusal, bodyRefusal, kindRefusal, entryRefusal, entriesRefusal, sheetRefusal, sheetAnswer}
 use Rattle.sheet.specs.Encoding.{encodeSteps, bodyOf, encodeEntry, encode, header, sheetBytes, stepLabels, labels, Labelled}
 use Rattle.sheet.specs.declared.SheetAnswer.the-variants.{Accepted}
 

@@ -1,15 +1,15 @@
 -- What a Boolean test says: one law for each of the connectives and searches, in both directions.
 use mathlib.Core.Bool.{Bool, true, false, not, So, _&&_, _||_, false≢true}
-use mathlib.Core.Path.{_≡_, refl, sym, _∙_, ap₂}
+use mathlib.Core.Path.{_≡_, refl, sym, ap, ap₂, _∙_}
 use mathlib.Core.Logic.{_↔_, _⊎_, inl, inr, ⊎-elim}
 use mathlib.Core.List.{List, [], _∷_, List·Memᴰ, List·Memᴰ·head, List·Memᴰ·tail, List·Memᴰ·not-nil, List·Memᴰ·cases-cons, List·Memᴰ·append-cases, Memᴰ·append-left, Memᴰ·append-right, _++_}
 use Prim.Native.Nat.{ℕ, zero, suc, _≤_, _<_, suc-le-suc}
 use native.Mathlib.Decide.{decLe}
 use native.Mathlib.Omega.{arith}
 use native.Mathlib.Nat.{not-suc-le-zero, eq-or-lt-of-le, le-of-suc-le-suc}
-use lib.Dec.{eqb}
-use lib.ListN.{getD}
-use borrow.Author.Tests.{eqb-true, eq-eqb}
+use lib.Dec.{eqb, ltb}
+use lib.ListN.{length, getD}
+use borrow.Author.Tests.{eqb-true, eq-eqb, ltb-true, lt-ltb}
 use Rattle.theory.specs.Search.{any, every, list}
 
 module _ {A : Type 0} where
@@ -22,6 +22,9 @@ le-or-lt m n = elim (decLe m n) [ yes h ↦ inl h | no h ↦ inr (omega arith) ]
 
 pub eqb-iff : (m n : ℕ) → So (eqb m n) ↔ (m ≡ n)
 eqb-iff m n = (eqb-true m n, eq-eqb m n)
+
+pub ltb-iff : (m n : ℕ) → So (ltb m n) ↔ (m < n)
+ltb-iff m n = (ltb-true m n, lt-ltb m n)
 
 pub and-iff : (a b : Bool) → So (a && b) ↔ (So a × So b)
 and-iff true b = (λ e. (refl, e), λ h. h .1)
@@ -52,6 +55,11 @@ any-iff (suc n) p =
       λ t. ⊎-elim (λ q. inl (rw (← q) (t .2))) (λ k. inr (t .0, k, t .2)) (eq-or-lt-of-le (le-of-suc-le-suc (t .1))),
     )
 
+pub any-ext : (n : ℕ) (p q : ℕ → Bool) → ((i : ℕ) → i < n → p i ≡ q i) → any n p ≡ any n q
+unfolding any
+any-ext zero p q f = refl
+any-ext (suc n) p q f = ap₂ _||_ (f n (omega arith)) (any-ext n p q (λ i l. f i (omega arith)))
+
 module _ {A : Type 0} where
   pub cons-iff : (a b : A) (l : List A) → List·Memᴰ a (b ∷ l) ↔ ((a ≡ b) ⊎ List·Memᴰ a l)
   cons-iff a b l = (List·Memᴰ·cases-cons, ⊎-elim List·Memᴰ·head List·Memᴰ·tail)
@@ -75,6 +83,11 @@ module _ {A : Type 0} where
   list-at (suc n) f zero d h = refl
   list-at (suc n) f (suc i) d h = list-at n (λ j. f (suc j)) i d (le-of-suc-le-suc h)
 
+  pub length-list : (n : ℕ) (f : ℕ → A) → length (list n f) ≡ n
+  unfolding list
+  length-list zero f = refl
+  length-list (suc n) f = ap suc (length-list n (λ i. f (suc i)))
+
   pub list-past : (n : ℕ) (f : ℕ → A) (i : ℕ) (d : A) → n ≤ i → getD (list n f) i d ≡ d
   unfolding list
   list-past zero f i d h = refl
@@ -91,6 +104,9 @@ pub test-eq : (a b : Bool) → (So a → So b) → (So b → So a) → a ≡ b
 test-eq true b f g = sym (f refl)
 test-eq false true f g = g refl
 test-eq false false f g = refl
+
+pub eqb-turn : (m n : ℕ) → eqb m n ≡ eqb n m
+eqb-turn m n = test-eq _ _ (λ e. eq-eqb n m (sym (eqb-true m n e))) (λ e. eq-eqb m n (sym (eqb-true n m e)))
 
 -- A test fails where it would make one pass that fails.
 pub test-fails : (a b : Bool) → (So a → So b) → b ≡ false → a ≡ false

@@ -1,0 +1,58 @@
+/* Compares two book files and prints, for each old cell, its partners and the questions that part it from the other new cells.
+ *
+ *     cc -I include examples/compare.c target/staticlib/libcapi.a -o compare
+ *     ./compare 1 examples/a-left.book examples/a-right.book
+ */
+#include <stdio.h>
+#include <stdlib.h>
+
+#include "cuhnavel.h"
+
+enum { CELLS = 64, BOOK = 8 + 4 * CELLS + 3 * 512, PAIRS = CELLS * CELLS };
+
+static uint8_t left[BOOK + 1], right[BOOK + 1]; /* a byte more, so that a longer file is seen to be one */
+static uint16_t map[PAIRS];
+static uint8_t room[10 + 44 * PAIRS], scratch[16 * PAIRS];
+
+static size_t load(const char *name, uint8_t *bytes)
+{
+    FILE *file = fopen(name, "rb");
+    if (!file) {
+        perror(name);
+        exit(2);
+    }
+    size_t size = fread(bytes, 1, BOOK + 1, file);
+    fclose(file);
+    return size;
+}
+
+int main(int count, char **words)
+{
+    if (count != 4) {
+        fprintf(stderr, "compare: give a bound and two book files\n");
+        return 2;
+    }
+    size_t bound = strtoul(words[1], NULL, 10);
+    size_t left_len = load(words[2], left), right_len = load(words[3], right);
+
+    /* The map has a place for each pair, so the cells are counted first. A refused book counts 0 here; Compare says why. */
+    size_t n = CUHNAVEL_FIRST(cuhnavel_check_book(left, left_len));
+    size_t m = CUHNAVEL_FIRST(cuhnavel_check_book(right, right_len));
+    uint64_t answer = cuhnavel_compare(left, left_len, right, right_len, bound, map, n * m, room, sizeof room, scratch, sizeof scratch);
+    if (CUHNAVEL_REFUSAL(answer) != 0) {
+        printf("refused: %u, part %u\n", CUHNAVEL_REFUSAL(answer), CUHNAVEL_PART(answer));
+        return 1;
+    }
+
+    size_t sheet_len = CUHNAVEL_FIRST(answer);
+    printf("%u of %zu pairs are matched; the sheet has %zu bytes\n", CUHNAVEL_SECOND(answer), n * m, sheet_len);
+    for (size_t i = 0; i < n; i++)
+        for (size_t j = 0; j < m; j++) {
+            uint64_t pair = cuhnavel_pair(map, n * m, i * m + j, room, sheet_len);
+            if (CUHNAVEL_FIRST(pair) == 0)
+                printf("old %zu and new %zu are matched\n", i, j);
+            else
+                printf("old %zu and new %zu are parted by question %u, at byte %u of the sheet\n", i, j, CUHNAVEL_FIRST(pair), CUHNAVEL_SECOND(pair));
+        }
+    return 0;
+}
