@@ -1,14 +1,11 @@
 //! Compares the library with what is expected, call by call, and counts the answers.
 
 use crate::expected;
+use crate::support::call::Call;
 use crate::support::counts::{Counts, OF_BOOK, OF_SHEET};
-use crate::support::hex;
 use crate::support::lent::Lent;
 use crate::support::library;
 use crate::support::outcome::{Outcome, CALL, LEFT_BOOK, SHEET};
-
-/// How many bytes of an input are printed.
-const PRINTED: usize = 16_384;
 
 pub struct Tally {
     row: Counts,
@@ -134,37 +131,4 @@ impl Tally {
 
 fn map_bytes(map: &[u16]) -> Vec<u8> {
     map.iter().flat_map(|place| place.to_be_bytes()).collect()
-}
-
-/// A call, to be printed if it went wrong.
-struct Call<'a> {
-    name: &'static str,
-    numbers: String,
-    inputs: &'a [(&'static str, &'a [u8])],
-}
-
-impl Call<'_> {
-    fn compare(&self, answer: Outcome, expected: Outcome) {
-        if answer != expected {
-            self.fail(&format!(
-                "the library gives {answer:?}, expected is {expected:?}"
-            ));
-        }
-    }
-
-    fn unchanged<T: Copy + PartialEq>(&self, lent: &Lent<T>, values: &[T]) {
-        if lent.values() != values || !lent.alone() {
-            self.fail("what was lent, or what is beside it, was changed");
-        }
-    }
-
-    fn fail(&self, what: &str) -> ! {
-        println!("{}, {}: {what}", self.name, self.numbers);
-        for (name, bytes) in self.inputs {
-            let cut = if bytes.len() > PRINTED { "..." } else { "" };
-            let printed = hex(&bytes[..bytes.len().min(PRINTED)]);
-            println!("{name}, {} bytes: {printed}{cut}", bytes.len());
-        }
-        std::process::exit(1);
-    }
 }

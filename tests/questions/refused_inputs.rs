@@ -4,7 +4,7 @@ use crate::expected::Asked;
 use crate::support::checks::check_sheet;
 use crate::support::counts::{OF_BOOK, OF_SHEET};
 use crate::support::random::Random;
-use crate::support::refusals::{book_refused, sheet_refused};
+use crate::support::refusals::{book_refused, change_byte, sheet_refused};
 use crate::tally::Tally;
 
 pub fn all(tally: &mut Tally) {
@@ -157,17 +157,7 @@ fn damaged(tally: &mut Tally, random: &mut Random) {
                 1 => &mut right,
                 _ => &mut sheet,
             };
-            // Mostly behind the header.
-            let place = random.pick(&[0, 8, 8, 8]);
-            let place = place + random.below(bytes.len() - place);
-            let value = random.byte();
-            bytes[place] = random.pick(&[
-                value,
-                0,
-                255,
-                bytes[place].wrapping_add(1),
-                bytes[place].wrapping_sub(1),
-            ]);
+            change_byte(random, bytes);
         }
         let few = random.one_in(8);
         let words = words(random, &sheet, few);

@@ -75,6 +75,24 @@ pub fn example_a_right() -> Book {
     }
 }
 
+/// A chain of these recordings: cell x leads to cell x + 1 by `label(x)`.
+pub fn chain(recordings: Vec<u32>, label: impl Fn(u8) -> u8) -> Book {
+    let last = recordings.len() as u8 - 1;
+    Book {
+        recordings,
+        links: (0..last).map(|x| link(x, label(x), x + 1)).collect(),
+    }
+}
+
+/// A ring of these recordings by label 1: the last cell leads to the first.
+pub fn ring(recordings: Vec<u32>) -> Book {
+    let cells = recordings.len() as u8;
+    Book {
+        recordings,
+        links: (0..cells).map(|x| link(x, 1, (x + 1) % cells)).collect(),
+    }
+}
+
 /// The most links that a book of `cells` cells can have with so many different labels.
 pub fn most_links(cells: usize, labels: usize) -> usize {
     (cells * labels * cells).min(512)

@@ -36,6 +36,19 @@ extern "C" {
         sheet_len: usize,
     ) -> u64;
     fn cuhnavel_links(book: *const u8, book_len: usize, cell: usize) -> u64;
+    fn cuhnavel_compare(
+        left: *const u8,
+        left_len: usize,
+        right: *const u8,
+        right_len: usize,
+        bound: usize,
+        map: *mut u16,
+        map_len: usize,
+        room: *mut u8,
+        room_len: usize,
+        scratch: *mut u8,
+        scratch_len: usize,
+    ) -> u64;
 }
 
 /// Check a book.
@@ -109,4 +122,30 @@ pub fn pair(map: &[u16], place: usize, sheet: &[u8]) -> Outcome {
 /// Links: the count, and where the part starts.
 pub fn links(book: &[u8], cell: usize) -> Outcome {
     Outcome::of_number(unsafe { cuhnavel_links(book.as_ptr(), book.len(), cell) })
+}
+
+/// Compare.
+pub fn compare(
+    left: &[u8],
+    right: &[u8],
+    bound: usize,
+    map: &mut [u16],
+    room: &mut [u8],
+    scratch: &mut [u8],
+) -> Outcome {
+    Outcome::of_number(unsafe {
+        cuhnavel_compare(
+            left.as_ptr(),
+            left.len(),
+            right.as_ptr(),
+            right.len(),
+            bound,
+            map.as_mut_ptr(),
+            map.len(),
+            room.as_mut_ptr(),
+            room.len(),
+            scratch.as_mut_ptr(),
+            scratch.len(),
+        )
+    })
 }

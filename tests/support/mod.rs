@@ -3,14 +3,18 @@
 #![allow(dead_code)] // each test uses a part
 
 pub mod books;
+pub mod call;
 pub mod checks;
 pub mod counts;
 pub mod lent;
 pub mod library;
 pub mod meaning;
+pub mod measures;
 pub mod outcome;
+pub mod partners;
 pub mod random;
 pub mod refusals;
+pub mod remade;
 pub mod sheets;
 
 /// Writes the number of all bytes into the length field, bytes 0 to 3, as far as there are such bytes.

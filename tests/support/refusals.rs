@@ -117,3 +117,17 @@ pub fn sheet_refused(random: &mut Random, refusal: u8) -> Vec<u8> {
     assert_eq!(check_sheet(&bytes).refusal, refusal);
     bytes
 }
+
+/// Changes a byte, mostly one behind the header. The bytes may still be accepted.
+pub fn change_byte(random: &mut Random, bytes: &mut [u8]) {
+    let place = random.pick(&[0, 8, 8, 8]);
+    let place = place + random.below(bytes.len() - place);
+    let value = random.byte();
+    bytes[place] = random.pick(&[
+        value,
+        0,
+        255,
+        bytes[place].wrapping_add(1),
+        bytes[place].wrapping_sub(1),
+    ]);
+}

@@ -5,7 +5,7 @@ use mathlib.Core.Bool.{Bool, true, false, not, So, cond, _||_}
 use mathlib.Core.List.{List, []}
 use mathlib.Core.Logic.{⊎-elim}
 use Prim.Native.Nat.{ℕ, zero, suc, _+_, _-_, _*_, _≤_, _<_}
-use native.Mathlib.Nat.{mul-le-mul, eq-or-lt-of-le}
+use native.Mathlib.Nat.{mul-le-mul, mul-le-mul-left, mul-le-mul-right, eq-or-lt-of-le}
 use native.Mathlib.Numerals.{add-one}
 use native.Mathlib.Omega.{arith}
 use borrow.Author.Tests.{lt-ltb, le-ltb, le-leb, lt-leb, eq-eqb, ne-eqb}
@@ -13,12 +13,12 @@ use lib.Dec.{ltb}
 use lib.ListN.{length, take, drop}
 use Rattle.fields.specs.Fields.{field}
 use Rattle.outcome.specs.Outcome.{accepted, refused, code, ofLeftBook, ofCall}
-use Rattle.theory.specs.Graph.{Link, link}
+use Rattle.theory.specs.Graph.{link}
 use Rattle.outcome.specs.Refusals.{firstOf, first-none, first-some}
-use Rattle.book.specs.Book.{lengthOf, versionOf, cellsOf, linksOf, labelWidth, linkPlace, linkIn, linkAt, countsRefusal, headRefusal, below, precedes, rises, linkRefusal, linksRefusal, bookRefusal, bookAnswer, bookOutcome, asLink}
+use Rattle.book.specs.Book.{lengthOf, versionOf, cellsOf, linksOf, recordingPlace, labelWidth, linkWidth, linkStart, linkPlace, linkIn, linkAt, countsRefusal, headRefusal, below, precedes, rises, linkRefusal, linksRefusal, bookRefusal, bookAnswer, bookOutcome, asLink}
 use Rattle.book.specs.Accepted.{headed, link-room, book-sizes, answer-accepted, answer-refused}
 use Rattle.book.specs.Outgoing.{before-is, first-before, first-rises, part-room}
-use Rattle.book.specs.BookLinks.{firstLink, RangeOut, partFrom, linksAnswer, partOf, linksPart, linksOutcome}
+use Rattle.book.specs.BookLinks.{linksBefore, linksAfter, firstLink, RangeOut, partFrom, linksAnswer, partOf, linksPart, linksOutcome}
 use Rattle.book.specs.declared.BookAnswer.{BookAnswer}
 use Rattle.book.specs.declared.BookAnswer.the-variants.{Accepted, Refused}
 use Rattle.book.specs.declared.LinksAnswer.{LinksAnswer}
@@ -26,16 +26,16 @@ use Rattle.book.specs.declared.LinksAnswer.the-variants.{Part, BookRefus
 use Rattle.book.specs.declared.BookLink.{BookLink}
 
 -- ---- places
--- the place of a link is a small number
-pub place-most : (w k : ℕ) → w ≤ 2 → k ≤ 512 → (2 + w) * k ≤ 2048
-place-most w k h l = let f : 2 + w ≤ 4 = omega arith in mul-le-mul f l
+-- a link takes at most 4 bytes
+pub start-most : (w k : ℕ) → w ≤ 2 → (2 + w) * k ≤ 4 * k
+start-most w k h = mul-le-mul-right k (omega arith)
 
-module _ (s : List ℕ) (n w k : ℕ) (dn : n ≡ cellsOf s) (dw : w ≡ labelWidth s) where
-  pub place-is : 8 + 4 * n + (2 + w) * k ≡ linkPlace s k
-  place-is = rw (dn, dw)
+module _ (s : List ℕ) (n w k : ℕ) (dw : w ≡ labelWidth s) where
+  pub start-is : 8 + 4 * n + (2 + w) * k ≡ linkStart s n k
+  start-is = rw dw
 
-  pub place-small : n < 256 → w ≤ 2 → k ≤ 512 → 8 + 4 * n + (2 + w) * k ≤ 4096
-  place-small h f g = omega (arith, place-most w k f g)
+  pub start-small : w ≤ 2 → 8 + 4 * n + (2 + w) * k ≤ 8 + 4 * n + 4 * k
+  start-small h = omega (arith, start-most w k h)
 
 -- ---- the header
 pub head-short : (s : List ℕ) → length s < 8 → 1 ≡ headRefusal s
@@ -240,34 +240,48 @@ module _ (s : List ℕ) (r : ℕ) (d : r ≡ bookRefusal s) where
 pub cell-test : (s : List ℕ) (n x : ℕ) → n ≡ cellsOf s → ltb x n ≡ ltb x (cellsOf s)
 cell-test s n x d = rw d
 
-pub recording-room : (s : List ℕ) (x : ℕ) → bookRefusal s ≡ 0 → x < cellsOf s → 8 + 4 * x + 4 ≤ length s
+pub recording-room : (s : List ℕ) (x : ℕ) → bookRefusal s ≡ 0 → x < cellsOf s → recordingPlace (x + 1) ≤ length s
 recording-room s x z h = omega (arith, book-sizes s z .sized)
 
 -- ---- the first link out of a cell
-pub record Lower (s : List ℕ) (x k : ℕ) : Type 0 where
-  pub each : (j : ℕ) → j < k → linkAt s j .from < x
+-- the first k links are out of cells below x
+pub record Lower (s : List ℕ) (n x k : ℕ) : Type 0 where
+  pub each : (j : ℕ) → j < k → field 1 s (linkStart s n j) < x
 
-pub lower-none : (s : List ℕ) (x : ℕ) → Lower s x 0
-lower-none s x = record { each = λ j h. absurd (omega arith) }
+pub lower-none : (s : List ℕ) (n x : ℕ) → Lower s n x 0
+lower-none s n x = record { each = λ j h. absurd (omega arith) }
 
-module _ (s : List ℕ) (x k e : ℕ) (de : e ≡ linksOf s) (i : Lower s x k) where
-  first-is : k ≤ e → (k < e → x ≤ linkAt s k .from) → k ≡ firstLink s x
-  unfolding firstLink
-  first-is h f = sym (before-is x (linksOf s) (linkAt s) k (record { most = rw de at h; below = i .each; stop = λ l. f (omega arith) }))
+-- a link that is to be read lies whole in the bytes
+pub start-room : (s : List ℕ) (n e k at : ℕ) → linkStart s n e ≤ length s → k < e → at ≡ linkStart s n k → at + 1 ≤ length s
+start-room s n e k at l h d = omega (arith, mul-le-mul-left (linkWidth s) h)
 
-  pub first-end : e ≤ k → k ≤ e → k ≡ firstLink s x
+module _ (s : List ℕ) (n e x k : ℕ) (i : Lower s n x k) where
+  first-is : k ≤ e → (k < e → x ≤ field 1 s (linkStart s n k)) → k ≡ linksBefore x (linksAfter s n e)
+  unfolding linkIn
+  first-is h f = sym (before-is x e (λ j. linkIn (labelWidth s) s (linkStart s n j)) k (record { most = h; below = i .each; stop = f }))
+
+  pub first-end : e ≤ k → k ≤ e → k ≡ linksBefore x (linksAfter s n e)
   first-end h l = first-is l (λ m. absurd (omega arith))
 
-  module _ (h : k < e) (l : BookLink) (dl : asLink l ≡ linkAt s k) where
-    at-from : l .from ≡ linkAt s k .from
-    at-from = ap (λ (m : Link). m .from) dl
+  module _ (h : k < e) (at from : ℕ) (da : at ≡ linkStart s n k) (df : from ≡ field 1 s at) where
+    read : from ≡ field 1 s (linkStart s n k)
+    read = rw (← da) df
 
-    pub first-stop : x ≤ l .from → k ≡ firstLink s x
-    first-stop g = first-is (omega arith) (λ m. omega (arith, at-from))
+    pub first-stop : x ≤ from → k ≡ linksBefore x (linksAfter s n e)
+    first-stop g = first-is (omega arith) (λ m. omega (arith, read))
 
-    pub first-next : l .from < x → Lower s x (k + 1)
+    pub first-next : from < x → Lower s n x (k + 1)
     first-next g =
-        record { each = λ j m. ⊎-elim (λ q. rw q (omega (arith, at-from))) (λ n. i .each j n) (eq-or-lt-of-le (omega arith)) }
+        record { each = λ j m. ⊎-elim (λ q. rw q (omega (arith, read))) (λ o. i .each j o) (eq-or-lt-of-le (omega arith)) }
+
+-- the counts are the header's
+module _ (s : List ℕ) (n e : ℕ) (dn : n ≡ cellsOf s) (de : e ≡ linksOf s) where
+  pub links-room : bookRefusal s ≡ 0 → linkStart s n e ≤ length s
+  links-room z = rw (dn, de) (omega (arith, book-sizes s z .sized))
+
+  pub first-among : (x r : ℕ) → r ≡ linksBefore x (linksAfter s n e) → r ≡ firstLink s x
+  unfolding firstLink linkAt
+  first-among x r d = rw (dn, de) at d
 
 -- ---- the part
 pub part-few : (s : List ℕ) (x first end : ℕ) → bookRefusal s ≡ 0 → RangeOut s x first end → end ≤ 512

@@ -44,9 +44,13 @@ labelWidth s = 1
 abbrev pub linkWidth : List ℕ → ℕ
 linkWidth s = 2 + labelWidth s
 
--- "Then e links of 3 bytes": where link k starts.
+-- "Then e links of 3 bytes": where link k starts, after the recordings of n cells.
+abbrev pub linkStart : List ℕ → ℕ → ℕ → ℕ
+linkStart s n k = recordingPlace n + linkWidth s * k
+
+-- Where link k starts.
 abbrev pub linkPlace : List ℕ → ℕ → ℕ
-linkPlace s k = recordingPlace (cellsOf s) + linkWidth s * k
+linkPlace s k = linkStart s (cellsOf s) k
 
 -- The link that starts at `at`, with a label of w bytes.
 unfoldable pub linkIn : ℕ → List ℕ → ℕ → Link

@@ -9,7 +9,7 @@ use Rattle.outcome.specs.Outcome.{Outcome, accepted, refused, ofLeftBook, ofCal
 use Rattle.theory.specs.Search.{list}
 use Rattle.theory.specs.Graph.{Link}
 use Rattle.theory.specs.Path.{Hop, hop}
-use Rattle.book.specs.Book.{cellsOf, linksOf, linkWidth, linkPlace, linkIn, bookRefusal}
+use Rattle.book.specs.Book.{cellsOf, linksOf, labelWidth, linkWidth, linkStart, linkPlace, linkIn, bookRefusal}
 use Rattle.book.specs.BookGraph.{bookLinks}
 use Rattle.book.specs.declared.LinksAnswer.{LinksAnswer}
 use Rattle.book.specs.declared.LinksAnswer.the-variants.{Part, BookRefused, NoCell}
@@ -18,6 +18,10 @@ use Rattle.book.specs.declared.LinksAnswer.the-variants.{Part, BookRefus
 unfoldable pub linksBefore : ℕ → List Link → ℕ
 linksBefore x [] = 0
 linksBefore x (k ∷ ks) = cond (ltb (k .from) x) (suc (linksBefore x ks)) 0
+
+-- The e links after the recordings of n cells, in order.
+abbrev pub linksAfter : List ℕ → ℕ → ℕ → List Link
+linksAfter s n e = list e (λ k. linkIn (labelWidth s) s (linkStart s n k))
 
 -- The number of the first link out of cell x, or of a later cell: the links out of x are those from here to the next cell's.
 unfoldable pub firstLink : List ℕ → ℕ → ℕ

@@ -54,6 +54,15 @@ before-is x n f k b =
     let no-more : k < m → ⊥ = λ h. omega (arith, a .below k h, b .stop (omega arith)) in
     omega arith
 
+-- the links before a later cell's are no fewer
+pub before-rises : (x n : ℕ) (f : ℕ → Link) → linksBefore x (list n f) ≤ linksBefore (x + 1) (list n f)
+before-rises x n f =
+    let a = before x n f in
+    let b = before (x + 1) n f in
+    let no-less : linksBefore (x + 1) (list n f) < linksBefore x (list n f) → ⊥ =
+    λ h. omega (arith, a .below (linksBefore (x + 1) (list n f)) h, b .stop (omega arith)) in
+    omega arith
+
 -- ---- the run of links out of a cell
 -- the hops out of x, where the links out of x are the m from link a on
 run-out : (n : ℕ) (f : ℕ → Link) (x a m : ℕ) → a + m ≤ n → ((j : ℕ) → a ≤ j → j < a + m → f j .from ≡ x)
@@ -84,12 +93,8 @@ first-before s x = before x (linksOf s) (linkAt s)
 
 -- the next cell's links come no earlier
 pub first-rises : (s : List ℕ) (x : ℕ) → firstLink s x ≤ firstLink s (x + 1)
-first-rises s x =
-    let a = first-before s x in
-    let b = first-before s (x + 1) in
-    let no-less : firstLink s (x + 1) < firstLink s x → ⊥ =
-    λ h. omega (arith, a .below (firstLink s (x + 1)) h, b .stop (omega arith)) in
-    omega arith
+unfolding firstLink
+first-rises s x = before-rises x (linksOf s) (linkAt s)
 
 -- every link from the first one on is from x or a later cell
 pub from-first : (s : List ℕ) → bookRefusal s ≡ 0 → (x k : ℕ) → firstLink s x ≤ k → k < linksOf s → x ≤ linkAt s k .from

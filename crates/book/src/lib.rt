@@ -6,9 +6,9 @@ ghost use lib.ListN.{length};
 ghost use Rattle.fields.specs.Fields.{field};
 ghost use Rattle.theory.specs.Graph.{compared, same, differ};
 ghost use Rattle.outcome.specs.Outcome.{code};
-ghost use Rattle.book.specs.Book.{cellsOf, linksOf, recordingAt, labelWidth, linkPlace, linkAt, countsRefusal, headRefusal, precedes, linkRefusal, linksRefusal, bookRefusal, bookAnswer, bookOutcome, asLink};
+ghost use Rattle.book.specs.Book.{cellsOf, linksOf, recordingPlace, recordingAt, labelWidth, linkStart, linkPlace, linkAt, countsRefusal, headRefusal, precedes, linkRefusal, linksRefusal, bookRefusal, bookAnswer, bookOutcome, asLink};
 ghost use Rattle.book.specs.BookGraph.{dataValue};
-ghost use Rattle.book.specs.BookLinks.{firstLink, RangeOut, partFrom, linksAnswer, linksPart, linksOutcome};
+ghost use Rattle.book.specs.BookLinks.{linksBefore, linksAfter, firstLink, RangeOut, partFrom, linksAnswer, linksPart, linksOutcome};
 
 // A cell of the left book.
 pub struct LeftCell(pub u8);
@@ -85,13 +85,21 @@ fn label_at(bytes: &[u8], at: usize) -> u8
     fields::get1(bytes, at)
 }
 
+// The byte where link k starts, after the recordings of so many cells.
+pub fn link_start(bytes: &[u8], cells: usize, k: usize) -> usize
+    requires { ⌜ (cells < 256) × (k < 65536) ⌝ }
+    ensures { λ r. ⌜ (r ≡ linkStart (now (bytes .entry)) cells k) × (r ≤ 8 + 4 * cells + 4 * k) ⌝ }
+{
+    let width = 2 + label_width(bytes);
+    8 + 4 * cells + width * k
+}
+
 // The byte where link k starts.
 fn link_place(bytes: &[u8], k: usize) -> usize
     requires { ⌜ (8 ≤ length (now bytes)) × (k ≤ 512) ⌝ }
     ensures { λ r. ⌜ (r ≡ linkPlace (now (bytes .entry)) k) × (r ≤ 4096) ⌝ }
 {
-    let width = 2 + label_width(bytes);
-    8 + 4 * cells_of(bytes) + width * k
+    link_start(bytes, cells_of(bytes), k)
 }
 
 // The refusal of the header's counts, 0 where there is none.
@@ -241,12 +249,20 @@ pub fn check_code(bytes: &[u8]) -> u64
     }
 }
 
+// The recording of a cell, where its bytes are there.
+pub fn recording_at(bytes: &[u8], cell: usize) -> Recording
+    requires { ⌜ recordingPlace (cell + 1) ≤ length (now bytes) ⌝ }
+    ensures { λ r. ⌜ r .0 ≡ recordingAt (now (bytes .entry)) cell ⌝ }
+{
+    Recording(fields::get4(bytes, 8 + 4 * cell))
+}
+
 // The recording of a cell.
 pub fn recording_of(bytes: &[u8], cell: usize) -> Recording
     requires { ⌜ (bookRefusal (now bytes) ≡ 0) × (cell < cellsOf (now bytes)) ⌝ }
     ensures { λ r. ⌜ r .0 ≡ recordingAt (now (bytes .entry)) cell ⌝ }
 {
-    Recording(fields::get4(bytes, 8 + 4 * cell))
+    recording_at(bytes, cell)
 }
 
 // Whether two recordings are same.
@@ -271,21 +287,28 @@ pub fn link_of(bytes: &[u8], k: usize) -> BookLink
     read_link(bytes, k)
 }
 
-// The number of the first link out of a cell, or of a later one.
-pub fn first_link(bytes: &[u8], cell: usize) -> usize
-    requires { ⌜ bookRefusal (now bytes) ≡ 0 ⌝ }
-    ensures { λ r. ⌜ (r ≡ firstLink (now (bytes .entry)) cell) × (r ≤ linksOf (now (bytes .entry))) ⌝ }
+// The number of the first link out of a cell, or of a later one, where the counts of cells and links are at hand.
+pub fn first_by_counts(bytes: &[u8], cells: usize, links: usize, cell: usize) -> usize
+    requires { ⌜ (cells < 256) × (links < 65536) × (linkStart (now bytes) cells links ≤ length (now bytes)) ⌝ }
+    ensures { λ r. ⌜ (r ≡ linksBefore cell (linksAfter (now (bytes .entry)) cells links)) × (r ≤ links) ⌝ }
 {
-    let e = links_of(bytes);
     let mut k = 0;
-    while k < e {
-        let link = link_of(bytes, k);
-        if cell <= link.from as usize {
+    while k < links {
+        let at = link_start(bytes, cells, k);
+        if cell <= fields::get1(bytes, at) as usize {
             return k;
         }
         k += 1;
     }
     k
+}
+
+// The number of the first link out of a cell, or of a later one.
+pub fn first_link(bytes: &[u8], cell: usize) -> usize
+    requires { ⌜ bookRefusal (now bytes) ≡ 0 ⌝ }
+    ensures { λ r. ⌜ (r ≡ firstLink (now (bytes .entry)) cell) × (r ≤ linksOf (now (bytes .entry))) ⌝ }
+{
+    first_by_counts(bytes, cells_of(bytes), links_of(bytes), cell)
 }
 
 // The links out of a cell, by number.

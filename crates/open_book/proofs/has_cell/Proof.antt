@@ -1,0 +1,17 @@
+-- `open_book::has_cell` meets its contract. Assumes nothing.
+use borrow.Author.Needs.{needs}
+use Rattle.open_book.proofs.Exits.{has-none, has-room}
+use Rattle.open_book.proofs.has_cell.Statement.{statement}
+use Rattle.open_book.proofs.has_cell.Tie as tie
+
+returns : tie.Need-returns
+returns c = search has-none
+
+link-start-requires : tie.Need-link-start-requires
+link-start-requires c κs = search needs
+
+returns-2 : tie.Need-returns-2
+returns-2 c = search has-room
+
+pub has-cell-spec : {M : Type 1} → statement M
+has-cell-spec = tie.close (tie.spec returns link-start-requires returns-2)

@@ -1,0 +1,88 @@
+/* A C caller of Compare: prints each answer taken apart, but not what document 01 leaves free: the sheet's length and which entries the map names. */
+#include <inttypes.h>
+#include <stdio.h>
+#include <string.h>
+
+#include "cuhnavel.h"
+
+#define PAIRS 6
+#define ROOM (10 + 44 * PAIRS)
+#define SCRATCH (16 * PAIRS)
+
+/* Document 01, example A: left, recordings 5, 5, 6, links (0,1,1), (0,1,2); right, recordings 5, 5, link (0,1,1). */
+static const uint8_t left[] = {
+    0, 0, 0, 26, 1, 3, 0, 2,
+    0, 0, 0, 5, 0, 0, 0, 5, 0, 0, 0, 6,
+    0, 1, 1, 0, 1, 2,
+};
+static const uint8_t right[] = {
+    0, 0, 0, 19, 1, 2, 0, 1,
+    0, 0, 0, 5, 0, 0, 0, 5,
+    0, 1, 1,
+};
+
+static uint16_t map[PAIRS + 1];
+static uint8_t room[ROOM + 1];
+static uint8_t scratch[SCRATCH + 1];
+
+static void refused(const char *name, uint64_t answer)
+{
+    printf("%s: refusal %" PRIu32 " part %" PRIu32 "\n", name, CUHNAVEL_REFUSAL(answer), CUHNAVEL_PART(answer));
+}
+
+/* How many of the bytes hold this value. */
+static size_t count(const uint8_t *bytes, size_t len, uint8_t value)
+{
+    size_t many = 0;
+    for (size_t i = 0; i < len; i++)
+        many += bytes[i] == value;
+    return many;
+}
+
+static void compare(size_t bound)
+{
+    memset(map, 0xff, sizeof map);
+    memset(room, 0xff, sizeof room);
+    memset(scratch, 0xff, sizeof scratch);
+    uint64_t answer = cuhnavel_compare(left, sizeof left, right, sizeof right, bound, map, PAIRS, room, ROOM, scratch, SCRATCH);
+    size_t length = CUHNAVEL_FIRST(answer);
+    uint64_t check = cuhnavel_check_sheet(room, length);
+
+    printf("bound %zu: refusal %" PRIu32 ", matched %" PRIu32 "; check of the sheet: refusal %" PRIu32 ", bound %" PRIu32 "\n",
+           bound, CUHNAVEL_REFUSAL(answer), CUHNAVEL_SECOND(answer), CUHNAVEL_REFUSAL(check), CUHNAVEL_SECOND(check));
+    for (size_t i = 0; i < 3; i++)
+        printf("row %zu: count %" PRIu32 " word %" PRIu64 "\n", i, CUHNAVEL_FIRST(cuhnavel_row(map, PAIRS, 2, i)),
+               cuhnavel_row_word(map, PAIRS, 2, i));
+    uint64_t words[4 * PAIRS + 1];
+    for (size_t place = 0; place < PAIRS; place++) {
+        if (map[place] == 0)
+            continue;
+        uint64_t claim = cuhnavel_claim(left, sizeof left, right, sizeof right, room, length, map[place], place / 2, place % 2,
+                                        words, 4 * PAIRS + 1);
+        printf("claim of left %zu, right %zu: %" PRIu32 "\n", place / 2, place % 2, CUHNAVEL_FIRST(claim));
+    }
+    printf("bytes after the sheet as they were: %s; zeros in the scratch: %zu; map, room and scratch beyond: %x %x %x\n",
+           count(room + length, ROOM - length, 0xff) == ROOM - length ? "yes" : "no", count(scratch, SCRATCH, 0), map[PAIRS],
+           room[ROOM], scratch[SCRATCH]);
+}
+
+int main(void)
+{
+    uint8_t other[sizeof left];
+
+    for (size_t bound = 0; bound <= 1; bound++)
+        compare(bound);
+
+    memset(room, 0xff, sizeof room);
+    refused("bound 5", cuhnavel_compare(left, sizeof left, right, sizeof right, 5, map, PAIRS, room, ROOM, scratch, SCRATCH));
+    refused("bound 256", cuhnavel_compare(left, sizeof left, right, sizeof right, 256, map, PAIRS, room, ROOM, scratch, SCRATCH));
+    memcpy(other, left, sizeof left);
+    other[4] = 2;
+    refused("left of version 2", cuhnavel_compare(other, sizeof left, right, 7, 1, map, PAIRS, room, ROOM, scratch, SCRATCH));
+    refused("right of 7 bytes", cuhnavel_compare(left, sizeof left, right, 7, 1, map, 5, room, ROOM, scratch, SCRATCH));
+    refused("map of 7", cuhnavel_compare(left, sizeof left, right, sizeof right, 1, map, 7, room, 273, scratch, SCRATCH));
+    refused("room of 273", cuhnavel_compare(left, sizeof left, right, sizeof right, 1, map, PAIRS, room, 273, scratch, 95));
+    refused("scratch of 95", cuhnavel_compare(left, sizeof left, right, sizeof right, 1, map, PAIRS, room, 274, scratch, 95));
+    printf("room as it was: %s\n", count(room, sizeof room, 0xff) == sizeof room ? "yes" : "no");
+    return 0;
+}

@@ -1,0 +1,256 @@
+//! Books that are compared.
+
+use crate::expected::{needed, Asked};
+use crate::shapes::{draw, OTHERS, SHAPES};
+use crate::support::books::{
+    chain, example_a_left, example_a_right, link, random_book, Book, Link,
+};
+use crate::support::random::Random;
+use crate::support::remade::{damaged, renumbered, split};
+use crate::tally::Tally;
+
+/// How many pairs of books of each shape at each bound.
+const DRAWN: usize = 400;
+
+/// How many parted pairs of a large case are claimed.
+const SOME_CLAIMS: usize = 40;
+
+pub fn all(tally: &mut Tally) {
+    let random = &mut Random::new(5);
+    examples(tally);
+    by_hand(tally);
+    by_shape(tally, random);
+    same_book(tally, random);
+    sizes(tally, random);
+    large(tally, random);
+}
+
+/// Exactly what two books need.
+fn exactly<'a>(left: &'a [u8], right: &'a [u8], bound: usize) -> Asked<'a> {
+    let (map, room, scratch) = needed(left[5] as usize * right[5] as usize);
+    Asked {
+        left,
+        right,
+        bound,
+        map,
+        room,
+        scratch,
+    }
+}
+
+/// Compares two books with as much room and scratch as they need, or some more.
+fn ask(
+    tally: &mut Tally,
+    random: &mut Random,
+    left: &Book,
+    right: &Book,
+    bound: usize,
+    shape: usize,
+    claims: usize,
+) {
+    let (left, right) = (left.bytes(), right.bytes());
+    let mut asked = exactly(&left, &right, bound);
+    asked.room += random.pick(&[0, 0, 1, 7, 100]);
+    asked.scratch += random.pick(&[0, 0, 1, 9, 100]);
+    tally.compare(asked, shape, claims);
+}
+
+fn book(recordings: &[u32], links: &[Link]) -> Book {
+    Book {
+        recordings: recordings.to_vec(),
+        links: links.to_vec(),
+    }
+}
+
+/// Document 01, P1 to P8: the pairs that it calls matched are, and those that it calls parted are not. For example A it names all.
+fn examples(tally: &mut Tally) {
+    let (a, b) = (example_a_left(), example_a_right());
+    let three = |last| chain(vec![5, 6, last], |_| 1);
+    let single = |recording| book(&[recording], &[]);
+    let looping = book(&[5], &[link(0, 1, 0)]);
+    let two = |recordings: [u32; 2]| book(&recordings, &[link(0, 1, 1), link(1, 1, 0)]);
+
+    expect(
+        tally,
+        &a,
+        &b,
+        1,
+        &[(1, 1), (2, 1)],
+        &[(0, 0), (0, 1), (1, 0), (2, 0)],
+    );
+    expect(
+        tally,
+        &a,
+        &b,
+        0,
+        &[(0, 0), (1, 1), (2, 1)],
+        &[(0, 1), (1, 0), (2, 0)],
+    );
+    for bound in 0..=4 {
+        expect(tally, &single(5), &single(9), bound, &[(0, 0)], &[]);
+    }
+    expect(tally, &three(5), &three(7), 1, &[(0, 0)], &[]);
+    expect(tally, &three(5), &three(7), 2, &[], &[(0, 0)]);
+    expect(tally, &looping, &two([5, 5]), 4, &[(0, 0), (0, 1)], &[]);
+    expect(tally, &looping, &two([5, 6]), 1, &[], &[(0, 0), (0, 1)]);
+    expect(tally, &looping, &two([5, 6]), 0, &[(0, 0), (0, 1)], &[]);
+
+    // "Room of 273 bytes declines A; 274 serves."
+    let (a, b) = (a.bytes(), b.bytes());
+    for room in [273, 274] {
+        for bound in 0..=4 {
+            let asked = Asked {
+                room,
+                ..exactly(&a, &b, bound)
+            };
+            tally.compare(asked, OTHERS, usize::MAX);
+        }
+    }
+}
+
+/// Books that differ in one link or recording, which one pair of ways sees at bound 2.
+fn by_hand(tally: &mut Tally) {
+    // Document 01, third slip: the same labels and ends, by other cells.
+    let fork = |x, y| {
+        let on = [link(1, 1, x), link(2, 1, y), link(2, 2, 2)];
+        book(
+            &[5, 7, 7, 5, 6],
+            &[&[link(0, 1, 1), link(0, 1, 2)], &on[..]].concat(),
+        )
+    };
+    // The ends, too, have to be related: of two last cells the one that a link by 2 marks is no counterpart of the other.
+    let marked = |unmarked, marked| {
+        let links = [link(0, 1, 1), link(1, 1, 2), link(1, 1, 3), link(3, 2, 4)];
+        book(&[7, 9, unmarked, marked, 10], &links)
+    };
+    // Ways of one end with different counterparts: the way by 3, 3 and the one by 2 decide, not the one by 1 to the same cell.
+    let one_end = |end| {
+        let links = [
+            link(0, 1, 1),
+            link(0, 1, 2),
+            link(0, 2, 1),
+            link(0, 3, 3),
+            link(3, 3, end),
+        ];
+        book(&[9, 7, 8, 10], &links)
+    };
+    // Ways of different ends with the same counterparts: the one by 1 to the second cell decides, not that to the first.
+    let two_ends = |recording| {
+        let links = [link(0, 1, 1), link(0, 1, 2), link(0, 3, 3), link(3, 3, 4)];
+        book(&[9, 7, 8, 10, recording], &links)
+    };
+    for (left, right) in [
+        (fork(3, 4), fork(4, 3)),
+        (marked(7, 8), marked(8, 7)),
+        (one_end(1), one_end(2)),
+        (two_ends(8), two_ends(11)),
+    ] {
+        expect(
+            tally,
+            &left,
+            &right,
+            1,
+            &[(0, 0), (1, 1), (2, 2), (3, 3)],
+            &[],
+        );
+        expect(
+            tally,
+            &left,
+            &right,
+            2,
+            &[(1, 1), (2, 2), (3, 3)],
+            &[(0, 0)],
+        );
+    }
+}
+
+fn expect(
+    tally: &mut Tally,
+    left: &Book,
+    right: &Book,
+    bound: usize,
+    matched: &[(usize, usize)],
+    parted: &[(usize, usize)],
+) {
+    let (one, other) = (left.bytes(), right.bytes());
+    let map = tally.compare(exactly(&one, &other, bound), OTHERS, usize::MAX);
+    let m = right.cells();
+    assert!(matched.iter().all(|(i, j)| map[i * m + j] == 0));
+    assert!(parted.iter().all(|(i, j)| map[i * m + j] != 0));
+}
+
+/// Thousands of small books.
+fn by_shape(tally: &mut Tally, random: &mut Random) {
+    for (place, shape) in SHAPES.iter().enumerate() {
+        for bound in 0..=4 {
+            for _ in 0..DRAWN {
+                let (left, right) = draw(random, shape, bound);
+                ask(tally, random, &left, &right, bound, place, usize::MAX);
+            }
+        }
+    }
+}
+
+/// A book and itself.
+fn same_book(tally: &mut Tally, random: &mut Random) {
+    for bound in 0..=4 {
+        for round in 0..DRAWN / 5 {
+            let shape = &SHAPES[round % SHAPES.len()];
+            let (book, _) = draw(random, shape, bound);
+            ask(tally, random, &book, &book, bound, OTHERS, usize::MAX);
+        }
+    }
+}
+
+/// Every number of cells, on either side, beside a book of few.
+fn sizes(tally: &mut Tally, random: &mut Random) {
+    for cells in 1..=64 {
+        let bound = cells % 5;
+        let links = random.between(0, cells);
+        let many = random_book(random, cells, links, 2, 3);
+        let few = random.between(1, 3);
+        let links = random.between(0, few);
+        let few = random_book(random, few, links, 2, 3);
+        match cells % 2 {
+            0 => ask(tally, random, &many, &few, bound, OTHERS, SOME_CLAIMS),
+            _ => ask(tally, random, &few, &many, bound, OTHERS, SOME_CLAIMS),
+        }
+    }
+}
+
+/// Books of 64 cells on both sides, and the most links.
+fn large(tally: &mut Tally, random: &mut Random) {
+    let mut ask = |random: &mut Random, left: &Book, right: &Book, bound: usize| {
+        ask(tally, random, left, right, bound, OTHERS, SOME_CLAIMS)
+    };
+    // No links: all are matched.
+    let bare = random_book(random, 64, 0, 1, 5);
+    for bound in 0..=4 {
+        ask(random, &bare, &bare, bound);
+    }
+    // Chains: as many rounds as cells, and questions as deep.
+    let recordings = (0..64).map(|_| random.below(2) as u32).collect();
+    let long = chain(recordings, |_| 1);
+    let other = renumbered(random, &long);
+    ask(random, &long, &other, 4);
+    let other = damaged(random, &long);
+    ask(random, &long, &other, 1);
+    // 8 links from each cell, by one label each.
+    let mut full = random_book(random, 64, 0, 1, 3);
+    for from in 0..64 {
+        full.links
+            .extend((0..8).map(|label| link(from, label * 36, random.below(64) as u8)));
+    }
+    let other = renumbered(random, &full);
+    ask(random, &full, &other, 0);
+    ask(random, &full, &other, 1);
+    // 8 links from each cell, by one label.
+    let dense = random_book(random, 64, 512, 1, 4);
+    let other = renumbered(random, &dense);
+    ask(random, &dense, &other, 1);
+    // Half as many cells, and each split.
+    let half = random_book(random, 32, 64, 2, 6);
+    let other = split(random, &half, 32, 4);
+    let other = renumbered(random, &other);
+    ask(random, &half, &other, 2);
+}

@@ -1,0 +1,143 @@
+//! Books made from others as a studio returns them: renumbered, split and joined. Where it is said so, each cell has the one it
+//! comes from for a partner, at every bound.
+
+use super::books::{link, Book, Link};
+use super::random::Random;
+use std::collections::BTreeSet;
+
+/// The numbers below `count` in any order.
+fn shuffled(random: &mut Random, count: usize) -> Vec<u8> {
+    let mut numbers: Vec<u8> = (0..count as u8).collect();
+    for last in (1..count).rev() {
+        numbers.swap(last, random.below(last + 1));
+    }
+    numbers
+}
+
+/// So many different recordings.
+fn different(random: &mut Random, count: usize) -> Vec<u32> {
+    let mut recordings = BTreeSet::new();
+    while recordings.len() < count {
+        let any = random.next() as u32;
+        let few = random.below(2 * count) as u32;
+        recordings.insert(random.pick(&[any, few]));
+    }
+    recordings.into_iter().collect()
+}
+
+/// The book with its cells in any order, and any other recordings of which the same are the same. Each cell is the partner of the
+/// one it comes from.
+pub fn renumbered(random: &mut Random, book: &Book) -> Book {
+    let kinds: BTreeSet<u32> = book.recordings.iter().copied().collect();
+    let kinds: Vec<u32> = kinds.into_iter().collect();
+    let renamed = different(random, kinds.len());
+    let order = shuffled(random, kinds.len()); // of the new recordings
+    let numbers = shuffled(random, book.cells());
+    let mut recordings = vec![0; book.cells()];
+    for (x, recording) in book.recordings.iter().enumerate() {
+        let kind = kinds.binary_search(recording).expect("one of its own");
+        recordings[numbers[x] as usize] = renamed[order[kind] as usize];
+    }
+    let links = book.links.iter().map(|l| Link {
+        from: numbers[l.from as usize],
+        label: l.label,
+        to: numbers[l.to as usize],
+    });
+    Book {
+        recordings,
+        links: rising(links),
+    }
+}
+
+/// The links in the order of a book, each once.
+fn rising(links: impl Iterator<Item = Link>) -> Vec<Link> {
+    let set: BTreeSet<Link> = links.collect();
+    set.into_iter().collect()
+}
+
+/// The book with `more` cells more, each a copy of a cell. Every copy of a cell has each link of that cell, to one copy of where it
+/// leads or, once in `several` times, to two. Each cell is the partner of the one it is a copy of.
+pub fn split(random: &mut Random, book: &Book, more: usize, several: usize) -> Book {
+    // The cell that each cell is a copy of.
+    let mut copied: Vec<u8> = (0..book.cells() as u8).collect();
+    for _ in 0..more {
+        let cell = random.below(book.cells()) as u8;
+        copied.push(cell);
+    }
+    let mut links = Vec::new();
+    for (x, &of) in copied.iter().enumerate() {
+        for l in book.links.iter().filter(|l| l.from == of) {
+            let copies: Vec<u8> = (0..copied.len() as u8)
+                .filter(|&y| copied[y as usize] == l.to)
+                .collect();
+            for _ in 0..=random.one_in(several) as usize {
+                links.push(link(x as u8, l.label, random.pick(&copies)));
+            }
+        }
+    }
+    Book {
+        recordings: copied
+            .iter()
+            .map(|&of| book.recordings[of as usize])
+            .collect(),
+        links: rising(links.into_iter()),
+    }
+}
+
+/// The cells and links of both books in one, the first book's cells first. Each cell is the partner of the one it comes from.
+pub fn both(first: &Book, second: &Book) -> Book {
+    let after = first.cells() as u8;
+    let moved = second
+        .links
+        .iter()
+        .map(|l| link(l.from + after, l.label, l.to + after));
+    Book {
+        recordings: [&first.recordings[..], &second.recordings[..]].concat(),
+        links: rising(first.links.iter().copied().chain(moved)),
+    }
+}
+
+/// The book with two of its cells made one, which has the first's recording and the links of both. The two may have had different
+/// partners.
+pub fn joined(random: &mut Random, book: &Book) -> Book {
+    if book.cells() == 1 {
+        return book.clone();
+    }
+    let numbers = shuffled(random, book.cells());
+    let (kept, gone) = (numbers[0], numbers[1]);
+    let number = |x: u8| {
+        let x = if x == gone { kept } else { x };
+        x - (x > gone) as u8
+    };
+    let mut recordings = book.recordings.clone();
+    recordings.remove(gone as usize);
+    let links = book
+        .links
+        .iter()
+        .map(|l| link(number(l.from), l.label, number(l.to)));
+    Book {
+        recordings,
+        links: rising(links),
+    }
+}
+
+/// The book with one recording, label or target changed, or one link left out.
+pub fn damaged(random: &mut Random, book: &Book) -> Book {
+    let mut book = book.clone();
+    let cell = random.below(book.cells());
+    if book.links.is_empty() || random.one_in(3) {
+        let other = random.pick(&book.recordings.clone());
+        book.recordings[cell] = random.pick(&[other, other.wrapping_add(1)]);
+        return book;
+    }
+    let place = random.below(book.links.len());
+    match random.below(3) {
+        0 => {
+            book.links.remove(place);
+        }
+        1 => book.links[place].label ^= 1,
+        _ => book.links[place].to = cell as u8,
+    }
+    book.links = rising(book.links.into_iter());
+    book
+}
