@@ -17,22 +17,23 @@ static uint8_t room[10 + 44 * PAIRS], scratch[16 * PAIRS];
 static size_t load(const char *name, uint8_t *bytes)
 {
     FILE *file = fopen(name, "rb");
-    if (!file) {
+    size_t size = file ? fread(bytes, 1, BOOK + 1, file) : 0;
+    if (!file || ferror(file)) { /* a folder can be opened, but not read */
         perror(name);
         exit(2);
     }
-    size_t size = fread(bytes, 1, BOOK + 1, file);
     fclose(file);
     return size;
 }
 
 int main(int count, char **words)
 {
-    if (count != 4) {
-        fprintf(stderr, "compare: give a bound and two book files\n");
+    char *end = NULL;
+    size_t bound = count == 4 ? strtoul(words[1], &end, 10) : 0;
+    if (count != 4 || end == words[1] || *end != '\0') {
+        fprintf(stderr, "compare: give a bound, which is a number, and two book files\n");
         return 2;
     }
-    size_t bound = strtoul(words[1], NULL, 10);
     size_t left_len = load(words[2], left), right_len = load(words[3], right);
 
     /* The map has a place for each pair, so the cells are counted first. A refused book counts 0 here; Compare says why. */

@@ -1,12 +1,12 @@
 //! Books that are compared.
 
 use crate::expected::{needed, Asked};
-use crate::shapes::{draw, OTHERS, SHAPES};
 use crate::support::books::{
     chain, example_a_left, example_a_right, link, random_book, Book, Link,
 };
 use crate::support::random::Random;
 use crate::support::remade::{damaged, renumbered, split};
+use crate::support::shapes::{draw, OTHERS, SHAPES};
 use crate::tally::Tally;
 
 /// How many pairs of books of each shape at each bound.

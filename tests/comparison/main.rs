@@ -4,7 +4,6 @@
 mod expected;
 mod inputs;
 mod refused_inputs;
-mod shapes;
 #[path = "../support/mod.rs"]
 mod support;
 mod tally;

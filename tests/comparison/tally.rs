@@ -1,7 +1,6 @@
 //! Compares the library with the naive comparison, call by call, checks all that it writes, and counts the answers.
 
 use crate::expected::{refusal, Asked};
-use crate::shapes::{OTHERS, SHAPES};
 use crate::support::books::Book;
 use crate::support::call::Call;
 use crate::support::checks::check_sheet;
@@ -13,6 +12,7 @@ use crate::support::measures::{depths, keeping};
 use crate::support::outcome::{accepted, Outcome, CALL, LEFT_BOOK, RIGHT_BOOK};
 use crate::support::partners::rounds;
 use crate::support::random::Random;
+use crate::support::shapes::{OTHERS, SHAPES};
 use crate::support::sheets::{Entry, Sheet};
 use std::collections::BTreeMap;
 

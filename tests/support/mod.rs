@@ -1,5 +1,5 @@
 //! What the tests in Rust share. A test includes it by
-//! `#[path = "../support/mod.rs"] mod support;` and links libcapi.a.
+//! `#[path = "../support/mod.rs"] mod support;`, and links libcapi.a where it calls the library.
 #![allow(dead_code)] // each test uses a part
 
 pub mod books;
@@ -15,6 +15,7 @@ pub mod partners;
 pub mod random;
 pub mod refusals;
 pub mod remade;
+pub mod shapes;
 pub mod sheets;
 
 /// Writes the number of all bytes into the length field, bytes 0 to 3, as far as there are such bytes.

@@ -1,9 +1,9 @@
 //! Pairs of small random books, by shape.
 
-use crate::support::books::{chain, link, most_links, random_book, ring, Book};
-use crate::support::partners::most_ways;
-use crate::support::random::Random;
-use crate::support::remade::{both, damaged, joined, renumbered, split};
+use super::books::{chain, link, most_links, random_book, ring, Book};
+use super::partners::most_ways;
+use super::random::Random;
+use super::remade::{both, damaged, joined, renumbered, split};
 
 /// The naive comparison takes long where a cell has many ways.
 const MOST_WAYS: usize = 48;

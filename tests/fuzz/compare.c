@@ -1,0 +1,89 @@
+/* Compare. */
+#include "calls.h"
+#include "cuhnavel.h"
+#include "facts.h"
+#include "inputs.h"
+#include "lists.h"
+#include "random.h"
+#include "tally.h"
+
+/* More than so many pairs of ways at pairs of cells take too long here. */
+enum { MOST_WORK = 1000000 };
+
+/* The bound or, where two accepted books would take too long, a smaller one. */
+static size_t quick_bound(size_t bound, const struct list *other)
+{
+    while (bound >= 1 && bound <= 4) {
+        uint64_t ways = most_ways(left.start, bound), other_ways = most_ways(other->start, bound);
+        if ((ways * ways + other_ways * other_ways) * left.start[5] * other->start[5] <= MOST_WORK)
+            break;
+        bound--;
+    }
+    return bound;
+}
+
+/* Claim says yes to the first parted pair from some place on, if there is one. */
+static void claim_one(const struct list *other, size_t m, size_t sheet_size, size_t entries)
+{
+    const uint16_t *place = (const uint16_t *)map.start;
+    size_t count = map.size / sizeof *place, from = below(count), k = 0;
+    while (k < count && place[(from + k) % count] == 0)
+        k++;
+    if (k == count)
+        return;
+    k = (from + k) % count;
+    lend_any(&words, 8 * entries);
+    uint64_t answer = counted(CLAIM, cuhnavel_claim(left.start, left.size, other->start, other->size, room.start, sheet_size,
+                                                    place[k], k / m, k % m, (uint64_t *)words.start, entries));
+    FACT(CUHNAVEL_REFUSAL(answer) == 0 && CUHNAVEL_FIRST(answer) == 1);
+}
+
+/* What an accepted Compare left. */
+static void compared(const struct list *other, size_t m, size_t bound, uint64_t answer)
+{
+    size_t sheet_size = CUHNAVEL_FIRST(answer), count = map.size / 2, zeros = 0;
+    FACT(sheet_size >= 10 && sheet_size <= 10 + 44 * count);
+    FACT(as_lent(&room, sheet_size));
+    uint64_t of_sheet = check_sheet(room.start, sheet_size);
+    FACT(CUHNAVEL_REFUSAL(of_sheet) == 0 && CUHNAVEL_SECOND(of_sheet) == bound);
+    const uint16_t *place = (const uint16_t *)map.start;
+    for (size_t k = 0; k < count; k++) {
+        FACT(place[k] < CUHNAVEL_FIRST(of_sheet));
+        zeros += place[k] == 0;
+    }
+    FACT(CUHNAVEL_SECOND(answer) == zeros);
+    for (size_t k = 0; k < scratch.size; k++)
+        FACT(scratch.start[k] == 0);
+    claim_one(other, m, sheet_size, CUHNAVEL_FIRST(of_sheet));
+}
+
+void call_compare(void)
+{
+    uint64_t of_left = any_book_lent(&left);
+    const struct list *other = one_in(8) ? &left : &right; /* the two may be the same book */
+    uint64_t of_right = other == &left ? of_left : any_book_lent(&right);
+    size_t m = first_or_few(of_right), pairs = first_or_few(of_left) * m, bound = one_in(3) ? any_number(5) : below(5);
+    if (CUHNAVEL_REFUSAL(of_left) == 0 && CUHNAVEL_REFUSAL(of_right) == 0)
+        bound = quick_bound(bound, other);
+    lend_any(&map, 2 * any_length(pairs));
+    lend_any(&room, any_length(10 + 44 * pairs));
+    lend_any(&scratch, any_length(16 * pairs));
+    uint64_t answer = counted(COMPARE, cuhnavel_compare(left.start, left.size, other->start, other->size, bound,
+                                                        (uint16_t *)map.start, map.size / 2, room.start, room.size,
+                                                        scratch.start, scratch.size));
+    const uint64_t refusals[] = {
+        call_refused(20, bound > 4),
+        refusal_of(of_left, CUHNAVEL_LEFT_BOOK),
+        refusal_of(of_right, CUHNAVEL_RIGHT_BOOK),
+        call_refused(21, map.size / 2 != pairs),
+        call_refused(22, room.size < 10 + 44 * pairs),
+        call_refused(23, scratch.size < 16 * pairs),
+    };
+    if (first_of(refusals, 6) == 0) {
+        FACT(CUHNAVEL_REFUSAL(answer) == 0);
+        compared(other, m, bound, answer);
+        return;
+    }
+    FACT(answer == first_of(refusals, 6));
+    FACT(as_lent(&map, 0) && as_lent(&room, 0) && as_lent(&scratch, 0));
+}
