@@ -8,7 +8,7 @@ use Prim.Native.Nat.{ℕ, suc, _+_, _-_, _*_, _^_, _≤_, _<_}
 use native.Mathlib.Nat.{eq-or-lt-of-le}
 use native.Mathlib.Numerals.{add-one}
 use native.Mathlib.Omega.{arith}
-use borrow.Author.Tests.{eqb-true, eq-eqb, ne-eqb}
+use borrow.Author.Tests.{eqb-true, eq-eqb, ne-eqb, le-leb, lt-leb}
 use lib.Bits.{bitOr, bitXor}
 use lib.Dec.{eqb}
 use lib.ListN.{length, getD, set, length-set}
@@ -16,23 +16,24 @@ use lib.Seq.{getD-set-same, getD-set-other}
 use Rattle.theory.specs.Search.{any}
 use Rattle.theory.specs.Tests.{never, and-iff, or-iff, facts, test-eq}
 use Rattle.words.specs.Words.{bit, wordOf}
-use Rattle.words.specs.Laws.{bit-or, bit-zero, bit-pow, bit-without, wordOf-is}
+use Rattle.words.specs.Laws.{bit-or, bit-zero, bit-pow, bit-without, wordOf-is, first-stop, first-end, first-next}
 use Rattle.hops.specs.Hops.{View, labelOf, toOf, hopsFrom, Opened, lead, Starts}
 use Rattle.hops.specs.Sets.{among, reached, spread, Paired}
-use Rattle.hops.specs.BookHops.{lead-le, lead-below, lead-at, lead-rises}
+use Rattle.hops.specs.BookHops.{lead-le, lead-rises}
 
 -- ---- the first link from a node or a later one
 module _ (count : ℕ) (fs : List ℕ) (x at : ℕ) (i : at ≤ lead count fs x) where
   pub lead-stop : x ≤ getD fs at 0 → at ≡ lead count fs x
-  lead-stop h =
-      ⊎-elim (λ e. e) (λ l. absurd (omega (arith, lead-below count fs x at l))) (eq-or-lt-of-le i)
+  unfolding lead
+  lead-stop h = first-stop count _ at i (le-leb x _ h)
 
   pub lead-end : count ≤ at → at ≡ lead count fs x
-  lead-end h = omega (arith, lead-le count fs x)
+  unfolding lead
+  lead-end h = first-end count _ at i h
 
   pub lead-next : at < count → getD fs at 0 < x → at + 1 ≤ lead count fs x
-  lead-next h l =
-      ⊎-elim (λ e. absurd (omega (arith, rw (← e) at (lead-at count fs x (rw (← e) h))))) (λ m. omega arith) (eq-or-lt-of-le i)
+  unfolding lead
+  lead-next h l = first-next count _ at i h (lt-leb x _ l)
 
 -- ---- the table of starts
 pub record Begun (count : ℕ) (fs table : List ℕ) (x : ℕ) : Type 0 where

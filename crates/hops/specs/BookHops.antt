@@ -13,8 +13,7 @@ use Rattle.theory.specs.Search.{list}
 use Rattle.theory.specs.Tests.{le-or-lt, list-at}
 use Rattle.theory.specs.Graph.{Link}
 use Rattle.theory.specs.Path.{Hop, hop, out}
-use Rattle.words.specs.Words.{first}
-use Rattle.words.specs.Laws.{first-there, first-least}
+use Rattle.words.specs.Laws.{first-there, first-least, first-le}
 use Rattle.book.specs.Book.{linksOf, linkAt, bookRefusal}
 use Rattle.book.specs.BookGraph.{graphOf}
 use Rattle.book.specs.Accepted.{book-from}
@@ -23,15 +22,6 @@ use Rattle.edges.specs.BookEdges.{Loaded}
 use Rattle.hops.specs.Hops.{viewOf, hopAt, hopsFrom, hopsOf, Opened, lead, Starts}
 
 -- ---- the first link from a node or a later one
-first-le : (n : ℕ) (p : ℕ → Bool) → first n p ≤ n
-unfolding first
-first-le zero p = omega arith
-first-le (suc n) p = go (p 0) (first-le n (λ i. p (suc i)))
-  where
-    go : (b : Bool) → first n (λ i. p (suc i)) ≤ n → cond b 0 (suc (first n (λ i. p (suc i)))) ≤ suc n
-    go true h = omega arith
-    go false h = omega arith
-
 module _ (count : ℕ) (fs : List ℕ) (x : ℕ) where
   pub lead-le : lead count fs x ≤ count
   unfolding lead

@@ -60,10 +60,11 @@ pub record Shows (room : List ℕ) (pen : Pen) (map left right : List ℕ) (now 
   pub newLeft : left ≡ now .newLeft
   pub newRight : right ≡ now .newRight
 
--- The number of the entry that is true at the left node, where d is that of the reason's and the next its denial's; and at the right one.
+-- The number of the entry that is true at the left node, where d is that of the reason's entry and the next that of its denial.
 abbrev pub trueLeft : ℕ → Bool → ℕ
 trueLeft d ahead = cond ahead d (suc d)
 
+-- The number of the entry that is true at the right node.
 abbrev pub trueRight : ℕ → Bool → ℕ
 trueRight d ahead = cond ahead (suc d) d
 

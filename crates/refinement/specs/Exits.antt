@@ -17,7 +17,7 @@ use Rattle.sheet.specs.Encoding.{encode}
 use Rattle.refinement.specs.Places.{unpartedBefore, among, nonzeros}
 use Rattle.refinement.specs.Entries.{Narrow}
 use Rattle.refinement.specs.Refining.{State, Cause, Caused, conjoined, conjoint, part, turned, pairEntries, pairBytes, Refined, Compared}
-use Rattle.refinement.specs.Steps.{stays-refined, nonzero-refined, zero-related, zero-spare, began-is}
+use Rattle.refinement.specs.Steps.{stays-refined, shares-refined, nonzero-refined, zero-related, zero-spare, began-is}
 use Rattle.refinement.specs.Writing.{part-refined}
 use Rattle.refinement.specs.Comparing.{turned-refined, still-compared, last-compared}
 
@@ -88,6 +88,14 @@ module _ {s : Sides} {l r : Graph} {c k start : ℕ} {now : State} (a b n m p : 
 pub began-exit : {s : Sides} {l r : Graph} {c k start p : ℕ} {now : State} (n m : ℕ) (z : Relation) → WellFormed l → WellFormed r → n ≡ l .size → m ≡ r .size
     → Refined s l r c k start p now → z ≡ among n m (unpartedBefore m start (now .map)) → z ≡ after s l r c k
 began-exit n m z wl wr left right inv e = rw (e, left, right) (began-is wl wr inv)
+
+-- two-sided: row a shares node y with the row of x before it, whose place in column b holds 0
+pub shares-exit : {l r : Graph} {c k start : ℕ} {now : State} (a b n m p x y : ℕ) → WellFormed l → WellFormed r → n ≡ l .size → m ≡ r .size → p ≡ a * m + b
+    → a < n → b < m → Refined twoSided l r c k start p now → x < a → y < b → getD (now .map) (a * m + y) 0 ≡ 0 → getD (now .map) (x * m + y) 0 ≡ 0
+    → getD (now .map) (x * m + b) 0 ≡ 0 → Refined twoSided l r c k start (p + 1) now
+shares-exit a b n m p x y wl wr left right place o u inv i j e f g =
+    rw (add-one, place, right) (shares-refined wl wr (refined-at-place a b n m p wl wr left right place o u inv) (omega arith) (omega arith)
+    x y i j (rw (← right) e) (rw (← right) f) (rw (← right) g))
 
 -- ---- one pair, two-sided; z is the relation that the round began with
 

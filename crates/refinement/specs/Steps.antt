@@ -11,12 +11,13 @@ use lib.Seq.{getD-set-same, getD-set-other}
 use borrow.Author.Tests.{eqb-true, eq-eqb, ne-eqb, le-leb}
 use Rattle.theory.specs.Expression.{NodeExpr}
 use Rattle.theory.specs.Graph.{Graph, WellFormed}
-use Rattle.theory.specs.Bisimulation.{Relation, Sides}
+use Rattle.theory.specs.Bisimulation.{Relation, Sides, twoSided}
 use Rattle.theory.specs.Rounds.{zigs, zags, after}
 use Rattle.theory.specs.Tests.{facts, test-eq}
 use Rattle.theory.specs.Greatest.{descends}
 use Rattle.theory.specs.Parting.{Describes}
 use Rattle.theory.specs.Describing.{stays, parts-drop, after-ext}
+use Rattle.theory.specs.Rows.{across}
 use Rattle.sheet.specs.Entry.{Entry}
 use Rattle.refinement.specs.Places.{placed, unparted, unpartedBefore, among, nonzeros, nonzeros-set, nonzeros-most, eq-or-ne, place-below, place-row, place-column, placed-set, placed-other, among-inside, among-at}
 use Rattle.refinement.specs.Entries.{Grows}
@@ -87,10 +88,9 @@ module _ {s : Sides} {l r : Graph} {c k start a b : ℕ} {now : State} (wl : Wel
   before-next : (x y : ℕ) → y < r .size → x * r .size + y < suc (a * r .size + b) → ((x ≡ a) × (y ≡ b)) ⊎ (x * r .size + y < a * r .size + b)
   before-next x y v h = ⊎-elim (λ e. inl (place-row _ x y a b v u e, place-column _ x y a b v u e)) inr (eq-or-lt-of-le (le-of-suc-le-suc h))
 
-  -- a pair whose clauses are met, or that was parted before
-  pub stays-refined : (So (after s l r c k a b) → So (zigs l r c (after s l r c k) a b) × So (zags s l r c (after s l r c k) a b))
-      → Refined s l r c k start (suc (a * r .size + b)) now
-  stays-refined f =
+  -- a place that is as round k + 1 leaves it
+  still-refined : unparted (r .size) (now .map) a b ≡ after s l r c (suc k) a b → Refined s l r c k start (suc (a * r .size + b)) now
+  still-refined here =
       record {
         sheet = inv .sheet;
         few = inv .few;
@@ -106,11 +106,17 @@ module _ {s : Sides} {l r : Graph} {c k start a b : ℕ} {now : State} (wl : Wel
         newLeft = inv .newLeft;
         newRight = inv .newRight;
       }
-    where
-      here : unparted (r .size) (now .map) a b ≡ after s l r c (suc k) a b
-      here =
-          inv .waiting a b o u (le-refl _)
-          ∙ test-eq _ _ (λ e. let t = f e in stays s c wl wr k a b e (t .0) (t .1)) (descends s c wl wr k a b)
+
+  -- a pair whose clauses are met, or that was parted before
+  pub stays-refined : (So (after s l r c k a b) → So (zigs l r c (after s l r c k) a b) × So (zags s l r c (after s l r c k) a b))
+      → Refined s l r c k start (suc (a * r .size + b)) now
+  stays-refined f =
+      still-refined (inv .waiting a b o u (le-refl _)
+      ∙ test-eq _ _ (λ e. let t = f e in stays s c wl wr k a b e (t .0) (t .1)) (descends s c wl wr k a b))
+
+  -- a pair that round k + 1 relates
+  related-refined : So (after s l r c (suc k) a b) → Refined s l r c k start (suc (a * r .size + b)) now
+  related-refined e = still-refined (inv .waiting a b o u (le-refl _) ∙ descends s c wl wr k a b e ∙ sym e)
 
   -- a place that holds a number: its pair was parted before
   pub nonzero-refined : placed (r .size) (now .map) a b ≢ 0 → Refined s l r c k start (suc (a * r .size + b)) now
@@ -175,6 +181,23 @@ module _ {s : Sides} {l r : Graph} {c k start a b : ℕ} {now : State} (wl : Wel
           newRight = λ d. described-set (t .grows) (t .newRight d)
               (λ y x u′ o′ q h. rw (placed-still x y (λ v. q (place-column _ x y a b u′ u v))) h) (inv .newRight d);
         }
+
+-- a pair that a row before tells of, two-sided: rows a and x share node y and x is related to b, so a is too (theory, `across`)
+pub shares-refined : {l r : Graph} {c k start a b : ℕ} {now : State} → WellFormed l → WellFormed r
+    → Refined twoSided l r c k start (a * r .size + b) now → a < l .size → b < r .size
+    → (x y : ℕ) → x < a → y < b → placed (r .size) (now .map) a y ≡ 0 → placed (r .size) (now .map) x y ≡ 0 → placed (r .size) (now .map) x b ≡ 0
+    → Refined twoSided l r c k start (suc (a * r .size + b)) now
+shares-refined {l} {r} {c} {k} {start} {a} {b} {now} wl wr inv o u x y i j e f g =
+    related-refined wl wr inv o u
+    (across c wl wr (suc k) a x y b (kept a y o (omega arith) (omega arith) e) (kept x y (omega arith) (omega arith) (above y (omega arith)) f)
+    (kept x b (omega arith) u (above b u) g))
+  where
+    above : (w : ℕ) → w < r .size → x * r .size + w < a * r .size + b
+    above w h = omega (arith, place-below a (r .size) x w i h)
+
+    kept : (v w : ℕ) → v < l .size → w < r .size → v * r .size + w < a * r .size + b → placed (r .size) (now .map) v w ≡ 0
+        → So (after twoSided l r c (suc k) v w)
+    kept v w p q h z = sym (inv .settled v w p q h) ∙ eq-eqb _ 0 z
 
 -- the relation that the round began with, read from the map
 pub began-is : {s : Sides} {l r : Graph} {c k start p : ℕ} {now : State} → WellFormed l → WellFormed r → Refined s l r c k start p now

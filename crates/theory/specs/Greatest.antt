@@ -138,6 +138,16 @@ module _ (s : Sides) {l r : Graph} (c : ℕ) (wl : WellFormed l) (wr : WellForme
   tabled zero = table-ext _ _ _ _ (λ a b h k. sym (related-at _ _ _ a b h k))
   tabled (suc k) = table-ext _ _ _ _ (λ a b h k. sym (related-at _ _ _ a b h k))
 
+  -- rounds that relate the same nodes have one table
+  rounds-ext : (j k : ℕ) → ((a b : ℕ) → a < l .size → b < r .size → after s l r c j a b ≡ after s l r c k a b) → rounds s l r c j ≡ rounds s l r c k
+  rounds-ext j k h = tabled j ∙ table-ext _ _ _ _ h ∙ sym (tabled k)
+
+  -- and the next rounds relate the same
+  pub next-ext : (j k : ℕ) → ((a b : ℕ) → a < l .size → b < r .size → after s l r c j a b ≡ after s l r c k a b)
+      → (a b : ℕ) → after s l r c (suc j) a b ≡ after s l r c (suc k) a b
+  unfolding rounds
+  next-ext j k h a b = ap (λ t. related (round s l r c t) a b) (rounds-ext j k h)
+
   -- a round that relates as many pairs relates the same
   same : (k : ℕ) → count (l .size) (r .size) (rounds s l r c k) ≤ count (l .size) (r .size) (rounds s l r c (suc k))
       → (a b : ℕ) → a < l .size → b < r .size → after s l r c (suc k) a b ≡ after s l r c k a b
@@ -149,7 +159,7 @@ module _ (s : Sides) {l r : Graph} (c : ℕ) (wl : WellFormed l) (wr : WellForme
       fewer x y = bit-le _ _ (descends k x y)
 
   down : (k : ℕ) → (rounds s l r c (suc k) ≡ rounds s l r c k) ⊎ (count (l .size) (r .size) (rounds s l r c (suc k)) < count (l .size) (r .size) (rounds s l r c k))
-  down k = ⊎-elim (λ e. inl (tabled (suc k) ∙ table-ext _ _ _ _ (same k e) ∙ sym (tabled k))) inr (le-or-lt _ _)
+  down k = ⊎-elim (λ e. inl (rounds-ext (suc k) k (same k e))) inr (le-or-lt _ _)
 
   most : count (l .size) (r .size) (rounds s l r c 0) ≤ l .size * r .size
   unfolding count
@@ -178,7 +188,7 @@ module _ (s : Sides) {l r : Graph} (c : ℕ) (wl : WellFormed l) (wr : WellForme
       → rounds s l r c k ≡ settled s l r c
   unfolding settled rounds
   still-settled k h =
-      let e = tabled (suc k) ∙ table-ext _ _ _ _ h ∙ sym (tabled k) in
+      let e = rounds-ext (suc k) k h in
       ⊎-elim (λ i. sym (stays (rounds s l r c) (count (l .size) (r .size)) down (round s l r c) (λ k. refl) k e (l .size * r .size) i))
       (λ i. last k (omega arith)) (le-or-lt k (l .size * r .size))
 

@@ -18,5 +18,6 @@ pub mod Fits
 pub mod Invariance
 pub mod Parting
 pub mod Describing
+pub mod Rows
 pub mod Examples
 pub mod Theorems

@@ -1,10 +1,10 @@
 -- The laws of a word's bits, each stated once: the operations, extensionality, the word of a test, the count, the lowest bit, and a cell taken away.
 -- Assumes nothing.
 use mathlib.Core.Path.{_≡_, refl, sym, ap, ap₂, _∙_}
-use mathlib.Core.Bool.{Bool, true, false, cond, _&&_, _||_, not, xor, and-true, and-false}
-use mathlib.Core.Logic.{_↔_}
+use mathlib.Core.Bool.{Bool, true, false, false≢true, cond, _&&_, _||_, not, xor, and-true, and-false}
+use mathlib.Core.Logic.{_↔_, ⊎-elim}
 use Prim.Native.Nat.{ℕ, zero, suc, _+_, _-_, _*_, _/_, _%_, _^_, _≤_, _<_, suc-le-suc}
-use native.Mathlib.Nat.{mod-lt, div-one, zero-div, pow-suc, zero-lt-suc, lt-of-le-of-lt, lt-of-lt-of-le, div-eq-of-lt, one-mul, zero-add}
+use native.Mathlib.Nat.{mod-lt, div-one, zero-div, pow-suc, zero-lt-suc, lt-of-le-of-lt, lt-of-lt-of-le, div-eq-of-lt, one-mul, zero-add, eq-or-lt-of-le}
 use native.Mathlib.Numerals.{one-add}
 use native.Mathlib.Omega.{arith}
 use native.Mathlib.Decide.{decLt}
@@ -277,6 +277,27 @@ first-least (suc n) p j h = go (first n (λ i. p (suc i))) (first-least n (λ i.
     go m later true e j h = absurd (omega arith)
     go m later false e zero h = e
     go m later false e (suc j) h = later j (omega arith)
+
+pub first-le : (n : ℕ) (p : ℕ → Bool) → first n p ≤ n
+unfolding first
+first-le zero p = omega arith
+first-le (suc n) p = go (p 0) (first-le n (λ i. p (suc i)))
+  where
+    go : (b : Bool) → first n (λ i. p (suc i)) ≤ n → cond b 0 (suc (first n (λ i. p (suc i)))) ≤ suc n
+    go true h = omega arith
+    go false h = omega arith
+
+-- looked for from 0 on: it is not before k
+module _ (n : ℕ) (p : ℕ → Bool) (k : ℕ) (i : k ≤ first n p) where
+  pub first-stop : p k ≡ true → k ≡ first n p
+  first-stop h = ⊎-elim (λ e. e) (λ l. absurd (false≢true (sym (first-least n p k l) ∙ h))) (eq-or-lt-of-le i)
+
+  pub first-end : n ≤ k → k ≡ first n p
+  first-end h = omega (arith, first-le n p)
+
+  pub first-next : k < n → p k ≡ false → k + 1 ≤ first n p
+  first-next h f =
+      ⊎-elim (λ e. absurd (false≢true (sym f ∙ rw (← e) at (first-there n p (rw (← e) h))))) (λ l. omega arith) (eq-or-lt-of-le i)
 
 -- a word that is not 0 has a lowest cell
 pub first-lt : (k w : ℕ) → 0 < w → w < 2 ^ k → first k (bit w) < k

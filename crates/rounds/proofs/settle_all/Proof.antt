@@ -1,57 +1,35 @@
--- `rounds::settle_all` meets its contract. The invariant: the round stands before the place. Assumes nothing.
-use mathlib.Core.Logic.{⊎-elim}
+-- `rounds::settle_all` meets its contract. The invariant: the round stands before the row. Assumes nothing.
 use Prim.Native.Nat.{_-_}
 use native.Mathlib.Omega.{arith}
 use borrow.Author.Needs.{needs}
-use Rattle.rounds.proofs.Exits.{Passing, right-long, passing-none, passing-all, wide, inside, row-small, column-small, place-small, pairing, passing-settled, passing-parted}
+use Rattle.rounds.proofs.Exits.{Passing, read-long, passing-none, passing-next, passing-all}
 use Rattle.rounds.proofs.settle_all.Statement.{statement}
 use Rattle.rounds.proofs.settle_all.Tie as tie
 
 abbrev Inv-loop : tie.InvT-loop
-Inv-loop left right sa la ta ea sb lb tb eb c start rows columns ol or room₀ map₀ nl₀ nr₀ m total p₀ place₀ room map nl nr p place = Passing left right sa la ta ea sb lb tb eb c start rows columns ol or room₀ p₀ m total place room p map nl nr
+Inv-loop left right sa la ta ea sb lb tb eb c start rows columns ol or room₀ map₀ nl₀ nr₀ n p₀ row₀ room map nl nr p row =
+    Passing left right sa la ta ea sb lb tb eb c start rows columns ol or room₀ p₀ n row room p map nl nr
 
 abbrev μ-loop : tie.MeasureT-loop
-μ-loop left right sa la ta ea sb lb tb eb c start rows columns ol or room₀ map₀ nl₀ nr₀ m total p₀ place₀ room map nl nr p place = total - place
+μ-loop left right sa la ta ea sb lb tb eb c start rows columns ol or room₀ map₀ nl₀ nr₀ n p₀ row₀ room map nl nr p row = n - row
 
 cells-of-requires : tie.Need-cells-of-requires Inv-loop μ-loop
-cells-of-requires c κs = search right-long
+cells-of-requires c κs = search read-long
 
 loop-holds : tie.Need-loop-holds Inv-loop μ-loop
 loop-holds c = search passing-none
 
-mul-if1 : tie.Need-mul-if1 Inv-loop μ-loop
-mul-if1 c = omega (arith, place-small (c .before .loop .inv) (c .loop-test .taken))
+settle-row-requires : tie.Need-settle-row-requires Inv-loop μ-loop
+settle-row-requires c κs = let inv = c .before .before .before .before .before .loop .inv in (inv .books, inv .reached .standing, omega (arith, inv .size, c .before .before .before .before .loop-test .taken))
 
-slice-read-if1 : tie.Need-slice-read-if1 Inv-loop μ-loop
-slice-read-if1 c = search inside
-
-div-i : tie.Need-div-i Inv-loop μ-loop
-div-i c = omega (arith, wide (c .before .before .before .loop .inv))
-
-cast-i : tie.Need-cast-i Inv-loop μ-loop
-cast-i c = omega (arith, row-small (c .before .before .before .loop .inv) (c .before .before .loop-test .taken))
-
-rem-j : tie.Need-rem-j Inv-loop μ-loop
-rem-j c = omega (arith, wide (c .before .before .before .loop .inv))
-
-cast-j : tie.Need-cast-j Inv-loop μ-loop
-cast-j c = omega (arith, column-small (c .before .before .before .loop .inv) (c .before .before .loop-test .taken))
-
-settle-requires : tie.Need-settle-requires Inv-loop μ-loop
-settle-requires c κs = let inv = c .before .before .before .before .before .before .before .loop .inv in (inv .books, inv .standing, pairing inv (c .before .before .before .before .before .before .loop-test .taken) (c .before .before .before .before .if1 .taken))
-
-add-place : tie.Need-add-place Inv-loop μ-loop
-add-place c = omega (arith, place-small (c .before .before .before .loop .inv) (c .before .before .loop-test .taken))
+add-row : tie.Need-add-row Inv-loop μ-loop
+add-row c = omega arith
 
 loop-less : tie.Need-loop-less Inv-loop μ-loop
-loop-less c = omega (arith, c .before .before .loop-test .taken)
+loop-less c = omega arith
 
 loop-again : tie.Need-loop-again Inv-loop μ-loop
-loop-again c =
-    let inv = c .before .before .before .loop .inv in
-    let h = c .before .before .loop-test .taken in
-    ⊎-elim (λ w. passing-settled inv h (w .5 .ensures) (w .10) (w .11) (w .12) (w .13) (w .14))
-    (λ w. passing-parted inv h (w .0 .left) (w .1) (w .2) (w .3) (w .4) (w .5)) (c .if1 .came)
+loop-again c = search passing-next
 
 same-length : tie.Need-same-length Inv-loop μ-loop
 same-length c = search needs
@@ -70,14 +48,8 @@ settle-all-spec =
     μ-loop
     cells-of-requires
     loop-holds
-    mul-if1
-    slice-read-if1
-    div-i
-    cast-i
-    rem-j
-    cast-j
-    settle-requires
-    add-place
+    settle-row-requires
+    add-row
     loop-less
     loop-again
     same-length
