@@ -9,7 +9,7 @@ use Rattle.routes.specs.declared.steps.Route.{Route}
 use Rattle.routes.specs.declared.pairs.Wanted.{Wanted}
 use Rattle.routes.specs.declared.pairs.Pair.{Pair}
 use Rattle.routes.specs.Order.{endOf, routesOut, past}
-use Rattle.routes.specs.Held.{linksIn, origin, Turn}
+use Rattle.routes.specs.Held.{routeOf, linksIn, origin, Turn}
 use Rattle.routes.specs.Pairs.{wantedOf, failing, kindOf, alone, failure, Sought}
 use Rattle.routes.specs.Along.{Along, along-end, along-word, along-here, along-next}
 
@@ -26,18 +26,18 @@ Outer v u z ea eb x y i j p = Along v u z x y i (Cleared v u z ea eb x y j) p
 abbrev pub Inner : View → View → List ℕ → List ℕ → List ℕ → ℕ → ℕ → ℕ → Route → Route → Type 0
 Inner v u z ea eb x y j p q = Along v u z x y j (Meets v u z ea eb x y (linksIn p)) q
 
-module _ (v u : View) (z ea eb : List ℕ) (x y i j : ℕ) (p q : Route) (o : Outer v u z ea eb x y i j p) where
-  pub none-found : p .some ≡ false → (r : Pair) → r .kind ≡ 0 → Sought v u z ea eb x y i j r
-  none-found n r e = record {
-    first = λ f. absurd (f e);
-    second = λ f. absurd (f e);
-    fails = λ f. absurd (f e);
-    listed = λ f. absurd (f e);
-    long = λ f. absurd (f e);
+module _ (v u : View) (z ea eb : List ℕ) (x y i j : ℕ) (p : Route) (o : Outer v u z ea eb x y i j p) where
+  pub none-found : p .some ≡ false → (r : Pair) (k : ℕ) → r .kind ≡ k → k ≡ 0 → Sought v u z ea eb x y i j r
+  none-found n r k e d = record {
+    first = λ f. absurd (f (e ∙ d));
+    second = λ f. absurd (f (e ∙ d));
+    fails = λ f. absurd (f (e ∙ d));
+    listed = λ f. absurd (f (e ∙ d));
+    long = λ f. absurd (f (e ∙ d));
     none = λ _ p′ q′ m m′. along-end v u z x y i (Cleared v u z ea eb x y j) p o n p′ m .each q′ m′;
   }
 
-  module _ (s : p .some ≡ true) (c : Inner v u z ea eb x y j p q) where
+  module _ (s : p .some ≡ true) (q : Route) (c : Inner v u z ea eb x y j p q) where
     -- the code's test is the definition's
     module _ (f : q .some ≡ true) (same differ : Wanted) (ds : same ≡ wantedOf ea eb 0 (endOf (v .to) x (linksIn p)) (getD (p .words) (p .len) 0))
         (dd : differ ≡ wantedOf ea eb 1 (endOf (v .to) x (linksIn p)) (getD (p .words) (p .len) 0)) (k : ℕ)
@@ -51,12 +51,13 @@ module _ (v u : View) (z ea eb : List ℕ) (x y i j : ℕ) (p q : Route) (o : Ou
       inner-next n q′ r =
           along-next v u z x y j (Meets v u z ea eb x y (linksIn p)) q c f q′ r (record { is = sym tested ∙ n })
 
-      pub pair-found : (k ≡ 0 → ⊥) → (r : Pair) → r .kind ≡ k → r .first ≡ p → r .second ≡ q → Sought v u z ea eb x y i j r
-      pair-found n r e d d′ = record {
+      pub pair-found : (k ≡ 0 → ⊥) → (r : Pair) (kind : ℕ) (ks ws : List ℕ) → r .kind ≡ kind → r .first ≡ p → r .second ≡ routeOf (p .some) (q .len) ks ws
+          → kind ≡ k → ks ≡ q .links → Sought v u z ea eb x y i j r
+      pair-found n r kind ks ws e d d′ b a = record {
         first = λ _. rw d (along-here v u z x y i (Cleared v u z ea eb x y j) p o s);
-        second = λ _. rw d′ (along-here v u z x y j (Meets v u z ea eb x y (linksIn p)) q c f);
-        fails = λ _. rw (e, d, d′) tested;
-        listed = λ _. rw (d, d′) (o .held s .listed, c .held f .listed);
+        second = λ _. rw (d′, a) (along-here v u z x y j (Meets v u z ea eb x y (linksIn p)) q c f);
+        fails = λ _. rw (e, b, d, d′, a) tested;
+        listed = λ _. rw (d, d′, a) (o .held s .listed, c .held f .listed);
         long = λ _. rw (d, d′) (o .long s, c .long f);
-        none = λ m. absurd (n (sym e ∙ m));
+        none = λ m. absurd (n (sym b ∙ sym e ∙ m));
       }

@@ -8,35 +8,34 @@ use native.Mathlib.Omega.{arith}
 use borrow.Author.Tests.{eqb-true, eqb-false}
 use lib.Bits.{bitOr}
 use lib.Dec.{eqb}
-use lib.ListN.{length, getD, set, length-set, length-append}
+use lib.ListN.{length, getD, take, set, length-set, length-append}
 use lib.Seq.{getD-set-same, getD-set-other}
 use Rattle.theory.specs.Tests.{le-or-lt, and-iff, append-iff}
 use Rattle.words.specs.Words.{bit}
 use Rattle.words.specs.Laws.{bit-with, bit-zero}
 use Rattle.hops.specs.Hops.{View}
 use Rattle.routes.specs.declared.steps.Route.{Route}
-use Rattle.routes.specs.declared.pairs.Memo.{Memo}
 use Rattle.routes.specs.Order.{endOf, routesOut, past}
-use Rattle.routes.specs.Held.{linksIn, origin, endsOver, Listed, Held, onFrom, Turn}
+use Rattle.routes.specs.Held.{routeOf, linksIn, origin, endsOver, Listed, Held, onFrom, Turn}
 use Rattle.routes.specs.Pairs.{wantedOf, failing, kindOf, alone, failure}
-use Rattle.routes.specs.Along.{Scan, scan-next, held-origin, along-end, along-word, along-scan, along-on, along-origin}
-use Rattle.routes.specs.Seen.{remembered, seenAt, Onward, Skipped}
+use Rattle.routes.specs.Along.{Scan, scan-next, held-origin, held-some, along-end, along-word, along-scan, along-on, along-origin}
+use Rattle.routes.specs.Seen.{Memo, memoOf, remembered, seenAt, Onward, Skipped}
 use Rattle.routes.proofs.OneRoute.{end-none, last-low, end-last}
 use Rattle.routes.proofs.Scans.{Cleared, Meets, Outer, Inner}
 
 -- ---- the memory
-pub remember-is : (m : Memo) (e cell w word known : ℕ) → e ≡ cell → w ≡ word → known ≡ bitOr (m .known) (2 ^ e)
-    → _≡_ {A = Memo} (record { known = known; words = set (m .words) e w }) (remembered m cell word)
-remember-is m e cell w word known de dw dk = rw (dk, de, dw)
+pub remember-is : (known : ℕ) (memo : List ℕ) (e cell word r : ℕ) → e ≡ cell → r ≡ bitOr known (2 ^ e)
+    → memoOf r (set memo e word) ≡ remembered (memoOf known memo) cell word
+remember-is known memo e cell word r de dr = rw (dr, de)
 
-module _ (m : Memo) (e cell w word : ℕ) (de : e ≡ cell) (dw : w ≡ word) (h : Bool) (dh : h ≡ bit (m .known) e) where
-  pub seen-in : h ≡ true → eqb (getD (m .words) e 0) w ≡ seenAt m cell word
+module _ (known : ℕ) (memo : List ℕ) (e cell word : ℕ) (de : e ≡ cell) (h : Bool) (dh : h ≡ bit known e) where
+  pub seen-in : h ≡ true → eqb (getD memo e 0) word ≡ seenAt (memoOf known memo) cell word
   unfolding seenAt
-  seen-in t = rw (← de, ← dw, ← dh, t)
+  seen-in t = rw (← de, ← dh, t)
 
-  pub seen-out : h ≡ false → false ≡ seenAt m cell word
+  pub seen-out : h ≡ false → false ≡ seenAt (memoOf known memo) cell word
   unfolding seenAt
-  seen-out t = rw (← de, ← dw, ← dh, t)
+  seen-out t = rw (← de, ← dh, t)
 
 -- ---- passing over
 module _ (v u : View) (z : List ℕ) (x : ℕ) (m : Memo) (w : Route) where
@@ -44,11 +43,11 @@ module _ (v u : View) (z : List ℕ) (x : ℕ) (m : Memo) (w : Route) where
   skip-start o = record { between = []; seen = λ p n. absurd (List·Memᴰ·not-nil n); on = λ d _. refl; some = λ f. f; held = o .held; long = λ _. refl }
 
   module _ (r : Route) (s : Skipped v u z x m w r) (f : r .some ≡ true) where
-    pub skip-listed : Listed (v .to) r
+    pub skip-listed : Listed (v .to) (r .len) (r .links)
     skip-listed = s .held f .listed
 
-    pub skip-held : Held v u z (origin r) r
-    skip-held = held-origin v u z (origin w) r (s .held f)
+    pub skip-held : Held v u z (origin r) (routeOf true (r .len) (r .links) (r .words))
+    skip-held = held-some v u z (origin r) r (held-origin v u z (origin w) r (s .held f))
 
     same-origin : origin r ≡ origin w
     unfolding endsOver
@@ -130,12 +129,12 @@ module _ (v u : View) (z ea eb : List ℕ) (x y j : ℕ) where
           kept false h = h
 
 -- ---- the outer loop, where the inner one has ended
-end-low : (to : List ℕ) (x : ℕ) (w : Route) → x < 64 → Listed to w → endOf to x (linksIn w) < 64
-end-low to x w l h =
+end-low : (to : List ℕ) (x n : ℕ) (ks : List ℕ) → x < 64 → Listed to n ks → endOf to x (take n ks) < 64
+end-low to x n ks l h =
     ⊎-elim
-    (λ o. let n : w .len ≡ 0 → ⊥ = λ z. omega arith in rw (← end-last to x w h n) (last-low to x w h n))
-    (λ o. rw (← end-none to x w (omega arith)) l)
-    (le-or-lt 1 (w .len))
+    (λ o. let f : n ≡ 0 → ⊥ = λ z. omega arith in rw (← end-last to x n ks h f) (last-low to x n ks h f))
+    (λ o. rw (← end-none to x n ks (omega arith)) l)
+    (le-or-lt 1 n)
 
 scan-skip : {A : Type 0} (all between left : List A) (P : A → Type 0) → ((w : A) → List·Memᴰ w between → P w) → Scan all (between ++ left) P → Scan all left P
 scan-skip all between left P f s = record {
@@ -152,7 +151,7 @@ module _ (v u : View) (z ea eb : List ℕ) (x y i j : ℕ) (p q : Route) (o : Ou
       → Remembers v u z ea eb x y j m′
   remembers-more m m′ l k d =
       rw (d, along-word v u z x y i (Cleared v u z ea eb x y j) p o s)
-      (more-remembers v u z ea eb x y j m _ _ (end-low (v .to) x p l (o .held s .listed)) k (cleared-at v u z ea eb x y j (linksIn p) done))
+      (more-remembers v u z ea eb x y j m _ _ (end-low (v .to) x (p .len) (p .links) l (o .held s .listed)) k (cleared-at v u z ea eb x y j (linksIn p) done))
 
   -- the next path, and the first one from there on that is not seen
   module _ (m : Memo) (p′ : Route) (t : Turn v u z (origin p) x (p .len) (past v (p .len) x (linksIn p)) p′) (p″ : Route) (k : Skipped v u z x m p′ p″) where

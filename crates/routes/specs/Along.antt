@@ -9,12 +9,16 @@ use lib.ListN.{length, getD}
 use Rattle.hops.specs.Hops.{View}
 use Rattle.routes.specs.declared.steps.Route.{Route}
 use Rattle.routes.specs.Order.{routesOut, past}
-use Rattle.routes.specs.Held.{linksIn, origin, endsOver, Listed, Held, onFrom, Turn}
+use Rattle.routes.specs.Held.{routeOf, linksIn, origin, endsOver, Listed, Held, onFrom, Turn}
 
 -- a route's words begin with the set that it was begun with
 pub held-origin : (v u : View) (z : List ℕ) (o : ℕ) (w : Route) → Held v u z o w → Held v u z (origin w) w
 unfolding endsOver
 held-origin v u z o w h = rw (h .follows 0 (omega arith)) h
+
+-- whether there is a path is no part of it
+pub held-some : (v u : View) (z : List ℕ) (o : ℕ) (w : Route) → Held v u z o w → Held v u z o (routeOf true (w .len) (w .links) (w .words))
+held-some v u z o w h = record { listed = h .listed; words = h .words; follows = h .follows }
 
 -- ---- a list that is gone through: of each element, it is still to come or P holds of it
 pub record Scan {A : Type 0} (all left : List A) (P : A → Type 0) : Type 0 where
@@ -54,11 +58,11 @@ module _ (v u : View) (z : List ℕ) (x y d : ℕ) (P : List ℕ → Type 0) (w 
     along-end n = scan-end (routesOut v d x) P (rw n at (a .scan))
 
     module _ (s : w .some ≡ true) where
-      pub along-listed : Listed (v .to) w
+      pub along-listed : Listed (v .to) (w .len) (w .links)
       along-listed = a .held s .listed
 
-      pub along-held : Held v u z (origin w) w
-      along-held = held-origin v u z (2 ^ y) w (a .held s)
+      pub along-held : Held v u z (origin w) (routeOf true (w .len) (w .links) (w .words))
+      along-held = held-some v u z (origin w) w (held-origin v u z (2 ^ y) w (a .held s))
 
       pub along-word : getD (w .words) (w .len) 0 ≡ endsOver v u z (2 ^ y) (linksIn w)
       along-word = a .held s .follows (w .len) (omega arith)

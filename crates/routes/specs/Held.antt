@@ -1,5 +1,5 @@
 -- What a route holds: a path's links, and for each beginning of it the ends of the paths of the other graph that are alike.
-use mathlib.Core.Bool.{true, cond}
+use mathlib.Core.Bool.{Bool, true, cond}
 use mathlib.Core.Path.{_≡_}
 use mathlib.Core.List.{List, [], _∷_}
 use Prim.Native.Nat.{ℕ, _+_, _-_, _≤_, _<_}
@@ -9,6 +9,10 @@ use Rattle.hops.specs.Hops.{View, labelOf, toOf, Opened}
 use Rattle.hops.specs.Sets.{imageOf}
 use Rattle.routes.specs.declared.steps.Route.{Route}
 use Rattle.routes.specs.Order.{past}
+
+-- The route of n links that two lists hold.
+abbrev pub routeOf : Bool → ℕ → List ℕ → List ℕ → Route
+routeOf some n links words = record { some = some; len = n; links = links; words = words }
 
 -- The links of a route.
 abbrev pub linksIn : Route → List ℕ
@@ -28,15 +32,15 @@ endsOver v u z w [] = w
 endsOver v u z w (k ∷ p) = endsOver v u z (stepWord u z w (labelOf v k) (toOf v k)) p
 
 -- At most four links, each one that there is.
-pub record Listed (to : List ℕ) (w : Route) : Type 0 where
-  pub short : w .len ≤ 4
-  pub links : length (w .links) ≡ 4
-  pub below : (i : ℕ) → i < w .len → getD (w .links) i 0 < 512
-  pub low : (i : ℕ) → i < w .len → getD to (getD (w .links) i 0) 0 < 64
+pub record Listed (to : List ℕ) (n : ℕ) (ks : List ℕ) : Type 0 where
+  pub short : n ≤ 4
+  pub links : length ks ≡ 4
+  pub below : (i : ℕ) → i < n → getD ks i 0 < 512
+  pub low : (i : ℕ) → i < n → getD to (getD ks i 0) 0 < 64
 
 -- Word i has the ends that follow the first i links from the nodes of o.
 pub record Held (v u : View) (z : List ℕ) (o : ℕ) (w : Route) : Type 0 where
-  pub listed : Listed (v .to) w
+  pub listed : Listed (v .to) (w .len) (w .links)
   pub words : length (w .words) ≡ 5
   pub follows : (i : ℕ) → i ≤ w .len → getD (w .words) i 0 ≡ endsOver v u z o (take i (w .links))
 
@@ -57,8 +61,10 @@ popped w = record { some = w .some; len = w .len - 1; links = w .links; words = 
 unfoldable pub onFrom : View → ℕ → ℕ → Route → List (List ℕ)
 onFrom v d x w = cond (w .some) (linksIn w ∷ past v d x (linksIn w)) []
 
--- What the enumeration answers: where the paths that are left go on.
+-- What the enumeration answers: where the paths that are left go on. The lists keep their lengths.
 pub record Turn (v u : View) (z : List ℕ) (o x d : ℕ) (left : List (List ℕ)) (w : Route) : Type 0 where
+  pub links : length (w .links) ≡ 4
+  pub words : length (w .words) ≡ 5
   pub held : w .some ≡ true → Held v u z o w
   pub long : w .some ≡ true → w .len ≡ d
   pub on : left ≡ onFrom v d x w

@@ -39,7 +39,7 @@ pub record Sought (v u : View) (z ea eb : List ℕ) (x y i j : ℕ) (r : Pair) :
   pub first : (r .kind ≡ 0 → ⊥) → List·Memᴰ (linksIn (r .first)) (routesOut v i x)
   pub second : (r .kind ≡ 0 → ⊥) → List·Memᴰ (linksIn (r .second)) (routesOut v j x)
   pub fails : (r .kind ≡ 0 → ⊥) → r .kind ≡ failure v u z ea eb x y (linksIn (r .first)) (linksIn (r .second))
-  pub listed : (r .kind ≡ 0 → ⊥) → Listed (v .to) (r .first) × Listed (v .to) (r .second)
+  pub listed : (r .kind ≡ 0 → ⊥) → Listed (v .to) (r .first .len) (r .first .links) × Listed (v .to) (r .second .len) (r .second .links)
   pub long : (r .kind ≡ 0 → ⊥) → (r .first .len ≡ i) × (r .second .len ≡ j)
   pub none : r .kind ≡ 0 → (p q : List ℕ) → List·Memᴰ p (routesOut v i x) → List·Memᴰ q (routesOut v j x) → failure v u z ea eb x y p q ≡ 0
 

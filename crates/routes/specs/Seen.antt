@@ -9,9 +9,17 @@ use lib.ListN.{getD, set}
 use Rattle.words.specs.Words.{bit}
 use Rattle.hops.specs.Hops.{View, Opened}
 use Rattle.routes.specs.declared.steps.Route.{Route}
-use Rattle.routes.specs.declared.pairs.Memo.{Memo}
 use Rattle.routes.specs.Order.{endOf}
 use Rattle.routes.specs.Held.{origin, endsOver, Held, onFrom}
+
+-- The first paths that are done with: for each node of `known` that they end at, the ends of the paths alike to one.
+pub record Memo : Type 0 where
+  pub known : ℕ
+  pub words : List ℕ
+
+-- The memo that a word and a list hold.
+abbrev pub memoOf : ℕ → List ℕ → Memo
+memoOf known words = record { known = known; words = words }
 
 -- m with the end e and the word w.
 abbrev pub remembered : Memo → ℕ → ℕ → Memo

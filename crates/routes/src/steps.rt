@@ -1,14 +1,15 @@
 // Paths of links from one cell, in order, each with the cells of the other book that follow it.
-ghost use mathlib.Core.Bool.{true, false};
+ghost use mathlib.Core.Bool.{true};
 ghost use mathlib.Core.Path.{_≡_};
 ghost use Prim.Native.Nat.{_+_, _-_, _^_, _≤_, _<_};
-ghost use lib.ListN.{length, getD};
+ghost use lib.ListN.{length, getD, take};
 ghost use Rattle.hops.specs.Hops.{viewOf, total, Opened};
 ghost use Rattle.routes.specs.Order.{endOf, routesOut, rest, past};
-ghost use Rattle.routes.specs.Held.{linksIn, origin, stepWord, Listed, Held, pushed, popped, Turn, Begun};
+ghost use Rattle.routes.specs.Held.{routeOf, stepWord, Listed, Held, pushed, Turn, Begun};
 
 // A path from a cell x of one book: the numbers of its first `len` links. words[i] has the ends of the paths from a cell y of the other
-// book that are alike to its first i links. Where `some` is false there is no path.
+// book that are alike to its first i links. Where `some` is false there is no path. The functions below keep the two lists where the
+// caller has them, and hand on the length and `some`.
 pub struct Route {
     pub some: bool,
     pub len: u8,
@@ -16,54 +17,17 @@ pub struct Route {
     pub words: [u64; 5],
 }
 
-// The path with no links.
-pub fn stay(y: u8) -> Route
-    requires { ⌜ y < 64 ⌝ }
-    ensures { λ r. ⌜ (r .some ≡ true) × (r .len ≡ 0) × (length (r .links) ≡ 4) × (length (r .words) ≡ 5) × (origin r ≡ 2 ^ y) ⌝ }
+// The cell where a path of n links from x ends.
+pub fn end_of(to: &[u8; 512], x: u8, links: &[u16; 4], n: u8) -> u8
+    requires { ⌜ (x < 64) × Listed (now to) n (now links) ⌝ }
+    ensures { λ r. ⌜ (r ≡ endOf (now (to .entry)) x (take n (now (links .entry)))) × (r < 64) ⌝ }
 {
-    let mut words = [0u64; 5];
-    words[0] = words::only(y);
-    Route {
-        some: true,
-        len: 0,
-        links: [0u16; 4],
-        words,
-    }
-}
-
-// No path.
-pub fn none() -> Route
-    ensures { λ r. ⌜ r .some ≡ false ⌝ }
-{
-    Route {
-        some: false,
-        len: 0,
-        links: [0u16; 4],
-        words: [0u64; 5],
-    }
-}
-
-// The cell where a path from x ends.
-pub fn end_of(to: &[u8; 512], x: u8, w: Route) -> u8
-    requires { ⌜ (x < 64) × Listed (now to) w ⌝ }
-    ensures { λ r. ⌜ (r ≡ endOf (now (to .entry)) x (linksIn w)) × (r < 64) ⌝ }
-{
-    let n = w.len;
     if n == 0 {
         return x;
     }
     let at = (n - 1) as usize;
-    let k = w.links[at];
+    let k = links[at];
     to[k as usize]
-}
-
-// The ends of the paths alike to a path.
-pub fn word_of(w: Route) -> u64
-    requires { ⌜ w .len ≤ 4 ⌝ }
-    ensures { λ r. ⌜ r ≡ getD (w .words) (w .len) 0 ⌝ }
-{
-    let at = w.len as usize;
-    w.words[at]
 }
 
 // The cells that a link with the label leads to from a cell of w, of those related to y.
@@ -83,7 +47,7 @@ pub fn step(
     words::meet(next, z[y as usize])
 }
 
-// The path w and then link k.
+// The path of n links and then link k.
 fn push(
     la: &[u16; 512],
     ta: &[u8; 512],
@@ -91,47 +55,27 @@ fn push(
     lb: &[u16; 512],
     tb: &[u8; 512],
     z: &[u64; 64],
-    w: Route,
+    links: &mut [u16; 4],
+    words: &mut [u64; 5],
+    n: u8,
     k: u16,
-) -> Route
-    requires { ⌜ (k < 512) × (getD (now ta) k 0 < 64) × Opened (now sb) (now tb) × (w .len < 4) ⌝ }
-    ensures { λ r. ⌜ r ≡ pushed (viewOf (now (sb .entry)) (now (lb .entry)) (now (tb .entry))) (now (z .entry)) w k (getD (now (la .entry)) k 0) (getD (now (ta .entry)) k 0) ⌝ }
+)
+    requires { ⌜ (k < 512) × (getD (now ta) k 0 < 64) × Opened (now sb) (now tb) × (n < 4) × (length (now links) ≡ 4) × (length (now words) ≡ 5) ⌝ }
+    ensures { λ _. ⌜ routeOf true (n + 1) (now (links .exit)) (now (words .exit)) ≡ pushed (viewOf (now (sb .entry)) (now (lb .entry)) (now (tb .entry))) (now (z .entry)) (routeOf true n (now (links .entry)) (now (words .entry))) k (getD (now (la .entry)) k 0) (getD (now (ta .entry)) k 0) ⌝ }
 {
-    let at = w.len as usize;
-    let r = w.words[at];
+    let at = n as usize;
+    let r = words[at];
     let next = step(sb, lb, tb, z, r, la[k as usize], ta[k as usize]);
-    let mut v = w;
-    v.links[at] = k;
-    v.words[at + 1] = next;
-    v.len = w.len + 1;
-    v
-}
-
-// w without its last link.
-fn pop(w: Route) -> Route
-    requires { ⌜ 0 < w .len ⌝ }
-    ensures { λ r. ⌜ r ≡ popped w ⌝ }
-{
-    let mut v = w;
-    v.len = w.len - 1;
-    v
-}
-
-// The last link of w.
-fn last_link(w: Route) -> u16
-    requires { ⌜ (0 < w .len) × (w .len ≤ 4) ⌝ }
-    ensures { λ r. ⌜ r ≡ getD (w .links) (w .len - 1) 0 ⌝ }
-{
-    let at = (w.len - 1) as usize;
-    w.links[at]
+    links[at] = k;
+    words[at + 1] = next;
 }
 
 // Where the links out of a path's end end.
-fn links_end(sa: &[u16; 65], ta: &[u8; 512], x: u8, w: Route) -> u16
-    requires { ⌜ Opened (now sa) (now ta) × (x < 64) × Listed (now ta) w ⌝ }
-    ensures { λ r. ⌜ (r ≡ getD (now (sa .entry)) (endOf (now (ta .entry)) x (linksIn w) + 1) 0) × (r ≤ total (now (sa .entry))) ⌝ }
+fn links_end(sa: &[u16; 65], ta: &[u8; 512], x: u8, links: &[u16; 4], n: u8) -> u16
+    requires { ⌜ Opened (now sa) (now ta) × (x < 64) × Listed (now ta) n (now links) ⌝ }
+    ensures { λ r. ⌜ (r ≡ getD (now (sa .entry)) (endOf (now (ta .entry)) x (take n (now (links .entry))) + 1) 0) × (r ≤ total (now (sa .entry))) ⌝ }
 {
-    let cell = end_of(ta, x, w) as usize;
+    let cell = end_of(ta, x, links, n) as usize;
     sa[cell + 1]
 }
 
@@ -144,7 +88,8 @@ fn first_link(sa: &[u16; 65], ta: &[u8; 512], k: u16) -> u16
     sa[cell]
 }
 
-// The first path of d links that begins as w does and goes on by link k or a later one, or that comes after all that begin as w does.
+// Makes the path of n links the first one of d links that begins as it does and goes on by link k or a later one, or that comes after
+// all that begin as it does; false where there is none.
 fn advance(
     sa: &[u16; 65],
     la: &[u16; 512],
@@ -154,33 +99,36 @@ fn advance(
     tb: &[u8; 512],
     z: &[u64; 64],
     x: u8,
-    w: Route,
+    links: &mut [u16; 4],
+    words: &mut [u64; 5],
+    n: u8,
     k: u16,
     d: u8,
-) -> Route
-    requires { ⌜ Begun (viewOf (now sa) (now la) (now ta)) (viewOf (now sb) (now lb) (now tb)) (now z) x w d ⌝ }
-    ensures { λ r. ⌜ Turn (viewOf (now (sa .entry)) (now (la .entry)) (now (ta .entry))) (viewOf (now (sb .entry)) (now (lb .entry)) (now (tb .entry))) (now (z .entry)) (origin w) x d (rest (viewOf (now (sa .entry)) (now (la .entry)) (now (ta .entry))) (d - 1) x (linksIn w) k) r ⌝ }
+) -> bool
+    requires { ⌜ Begun (viewOf (now sa) (now la) (now ta)) (viewOf (now sb) (now lb) (now tb)) (now z) x (routeOf true n (now links) (now words)) d ⌝ }
+    ensures { λ r. ⌜ Turn (viewOf (now (sa .entry)) (now (la .entry)) (now (ta .entry))) (viewOf (now (sb .entry)) (now (lb .entry)) (now (tb .entry))) (now (z .entry)) (getD (now (words .entry)) 0 0) x d (rest (viewOf (now (sa .entry)) (now (la .entry)) (now (ta .entry))) (d - 1) x (take n (now (links .entry))) k) (routeOf r d (now (links .exit)) (now (words .exit))) ⌝ }
 {
-    let mut v = w;
+    let mut len = n;
     let mut at = k;
     loop {
-        if at < links_end(sa, ta, x, v) {
-            v = push(la, ta, sb, lb, tb, z, v, at);
-            if v.len == d {
-                return v;
+        if at < links_end(sa, ta, x, links, len) {
+            push(la, ta, sb, lb, tb, z, links, words, len, at);
+            len += 1;
+            if len == d {
+                return true;
             }
             at = first_link(sa, ta, at);
         } else {
-            if v.len == 0 {
-                return none();
+            if len == 0 {
+                return false;
             }
-            at = last_link(v) + 1;
-            v = pop(v);
+            len -= 1;
+            at = links[len as usize] + 1;
         }
     }
 }
 
-// The first path of d links from x.
+// Makes the path the first one of d links from x; false where there is none.
 pub fn first_route(
     sa: &[u16; 65],
     la: &[u16; 512],
@@ -191,20 +139,22 @@ pub fn first_route(
     z: &[u64; 64],
     x: u8,
     y: u8,
+    links: &mut [u16; 4],
+    words: &mut [u64; 5],
     d: u8,
-) -> Route
-    requires { ⌜ Opened (now sa) (now ta) × Opened (now sb) (now tb) × (x < 64) × (y < 64) × (d ≤ 4) ⌝ }
-    ensures { λ r. ⌜ Turn (viewOf (now (sa .entry)) (now (la .entry)) (now (ta .entry))) (viewOf (now (sb .entry)) (now (lb .entry)) (now (tb .entry))) (now (z .entry)) (2 ^ y) x d (routesOut (viewOf (now (sa .entry)) (now (la .entry)) (now (ta .entry))) d x) r ⌝ }
+) -> bool
+    requires { ⌜ Opened (now sa) (now ta) × Opened (now sb) (now tb) × (x < 64) × (y < 64) × (d ≤ 4) × (length (now links) ≡ 4) × (length (now words) ≡ 5) ⌝ }
+    ensures { λ r. ⌜ Turn (viewOf (now (sa .entry)) (now (la .entry)) (now (ta .entry))) (viewOf (now (sb .entry)) (now (lb .entry)) (now (tb .entry))) (now (z .entry)) (2 ^ y) x d (routesOut (viewOf (now (sa .entry)) (now (la .entry)) (now (ta .entry))) d x) (routeOf r d (now (links .exit)) (now (words .exit))) ⌝ }
 {
-    let w = stay(y);
+    words[0] = words::only(y);
     if d == 0 {
-        return w;
+        return true;
     }
     let k = sa[x as usize];
-    advance(sa, la, ta, sb, lb, tb, z, x, w, k, d)
+    advance(sa, la, ta, sb, lb, tb, z, x, links, words, 0, k, d)
 }
 
-// The next path of as many links as w.
+// Makes the path of d links the next one of as many; false where it is the last.
 pub fn next_route(
     sa: &[u16; 65],
     la: &[u16; 512],
@@ -214,16 +164,17 @@ pub fn next_route(
     tb: &[u8; 512],
     z: &[u64; 64],
     x: u8,
-    w: Route,
-) -> Route
-    requires { ⌜ Opened (now sa) (now ta) × Opened (now sb) (now tb) × (x < 64) × (w .some ≡ true) × Held (viewOf (now sa) (now la) (now ta)) (viewOf (now sb) (now lb) (now tb)) (now z) (origin w) w ⌝ }
-    ensures { λ r. ⌜ Turn (viewOf (now (sa .entry)) (now (la .entry)) (now (ta .entry))) (viewOf (now (sb .entry)) (now (lb .entry)) (now (tb .entry))) (now (z .entry)) (origin w) x (w .len) (past (viewOf (now (sa .entry)) (now (la .entry)) (now (ta .entry))) (w .len) x (linksIn w)) r ⌝ }
+    links: &mut [u16; 4],
+    words: &mut [u64; 5],
+    d: u8,
+) -> bool
+    requires { ⌜ Opened (now sa) (now ta) × Opened (now sb) (now tb) × (x < 64) × Held (viewOf (now sa) (now la) (now ta)) (viewOf (now sb) (now lb) (now tb)) (now z) (getD (now words) 0 0) (routeOf true d (now links) (now words)) ⌝ }
+    ensures { λ r. ⌜ Turn (viewOf (now (sa .entry)) (now (la .entry)) (now (ta .entry))) (viewOf (now (sb .entry)) (now (lb .entry)) (now (tb .entry))) (now (z .entry)) (getD (now (words .entry)) 0 0) x d (past (viewOf (now (sa .entry)) (now (la .entry)) (now (ta .entry))) d x (take d (now (links .entry)))) (routeOf r d (now (links .exit)) (now (words .exit))) ⌝ }
 {
-    let d = w.len;
     if d == 0 {
-        return none();
+        return false;
     }
-    let k = last_link(w) + 1;
-    let v = pop(w);
-    advance(sa, la, ta, sb, lb, tb, z, x, v, k, d)
+    let n = d - 1;
+    let k = links[n as usize] + 1;
+    advance(sa, la, ta, sb, lb, tb, z, x, links, words, n, k, d)
 }

@@ -53,7 +53,7 @@ met-on false b e d = absurd (false≢true d)
 abbrev comparisonOf : ℕ → Comparison
 comparisonOf k = cond (eqb k 5) same differ
 
-numbered-of : (to : List ℕ) (c : ℕ) (w : Route) → Listed to w → w .len ≤ c → Numbered to c (stepsOf w)
+numbered-of : (to : List ℕ) (c : ℕ) (w : Route) → Listed to (w .len) (w .links) → w .len ≤ c → Numbered to c (stepsOf w)
 numbered-of to c w h l = record { short = l; links = h .links; below = h .below; low = h .low }
 
 reason-is : (v : View) (s : Reason) (k : ℕ) → s .kind ≡ k → (k ≡ 4 → ⊥) → reasonOf v s ≡ byPaths (comparisonOf k) (pathIn v (s .first)) (pathIn v (s .second))

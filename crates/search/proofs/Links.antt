@@ -2,8 +2,8 @@
 use mathlib.Core.Bool.{true, false, false≢true}
 use mathlib.Core.Path.{_≡_, sym, _∙_}
 use mathlib.Core.List.{List}
-use Prim.Native.Nat.{ℕ, _^_, _≤_}
-use lib.ListN.{getD}
+use Prim.Native.Nat.{ℕ, _^_}
+use lib.ListN.{length, getD}
 use Rattle.hops.specs.Hops.{View}
 use Rattle.routes.specs.declared.steps.Route.{Route}
 use Rattle.routes.specs.Order.{past}
@@ -28,20 +28,19 @@ module _ (v u : View) (z : List ℕ) (x y : ℕ) (p : Route) (l : LinksAt v u z 
   }
 
   module _ (s : p .some ≡ true) where
-    pub links-short : p .len ≤ 4
-    links-short = l .held s .listed .short
+    pub links-words : length (p .words) ≡ 5
+    links-words = l .held s .words
 
-    module _ (w : ℕ) (dw : w ≡ getD (p .words) (p .len) 0) where
-      word-is : w ≡ endsOver v u z (2 ^ y) (linksIn p)
-      word-is = dw ∙ along-word v u z x y 1 (Answers v u z y) p l s
+    word-is : getD (p .words) (p .len) 0 ≡ endsOver v u z (2 ^ y) (linksIn p)
+    word-is = along-word v u z x y 1 (Answers v u z y) p l s
 
-      pub links-found : w ≡ 0 → Single v u z x y p
-      links-found q = record {
-        found = λ _. (along-here v u z x y 1 (Answers v u z y) p l s, sym word-is ∙ q);
-        listed = λ _. l .held s .listed;
-        long = λ _. l .long s;
-        none = λ n. absurd (false≢true (sym n ∙ s));
-      }
+    pub links-found : getD (p .words) (p .len) 0 ≡ 0 → Single v u z x y p
+    links-found q = record {
+      found = λ _. (along-here v u z x y 1 (Answers v u z y) p l s, sym word-is ∙ q);
+      listed = λ _. l .held s .listed;
+      long = λ _. l .long s;
+      none = λ n. absurd (false≢true (sym n ∙ s));
+    }
 
-      pub links-next : (w ≡ 0 → ⊥) → (p′ : Route) → Turn v u z (origin p) x (p .len) (past v (p .len) x (linksIn p)) p′ → LinksAt v u z x y p′
-      links-next q p′ r = along-next v u z x y 1 (Answers v u z y) p l s p′ r (record { some = λ e. q (word-is ∙ e) })
+    pub links-next : (getD (p .words) (p .len) 0 ≡ 0 → ⊥) → (p′ : Route) → Turn v u z (origin p) x (p .len) (past v (p .len) x (linksIn p)) p′ → LinksAt v u z x y p′
+    links-next q p′ r = along-next v u z x y 1 (Answers v u z y) p l s p′ r (record { some = λ e. q (word-is ∙ e) })

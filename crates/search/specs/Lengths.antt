@@ -37,7 +37,7 @@ pub record Shown (v u : View) (z ea eb : List ℕ) (x y i j : ℕ) (r : Pair) : 
   pub first : List·Memᴰ (linksIn (r .first)) (routesOut v i x)
   pub second : List·Memᴰ (linksIn (r .second)) (routesOut v j x)
   pub fails : r .kind ≡ failure v u z ea eb x y (linksIn (r .first)) (linksIn (r .second))
-  pub listed : Listed (v .to) (r .first) × Listed (v .to) (r .second)
+  pub listed : Listed (v .to) (r .first .len) (r .first .links) × Listed (v .to) (r .second .len) (r .second .links)
   pub long : (r .first .len ≡ i) × (r .second .len ≡ j)
 
 -- Two paths of lengths in a range that fail, or that there are none.
@@ -53,6 +53,6 @@ pub record Fewest (v u : View) (z ea eb : List ℕ) (x y c : ℕ) (r : Pair) : T
 -- A single link without counterpart, or that there is none.
 pub record Single (v u : View) (z : List ℕ) (x y : ℕ) (p : Route) : Type 0 where
   pub found : p .some ≡ true → List·Memᴰ (linksIn p) (routesOut v 1 x) × (endsOver v u z (2 ^ y) (linksIn p) ≡ 0)
-  pub listed : p .some ≡ true → Listed (v .to) p
+  pub listed : p .some ≡ true → Listed (v .to) (p .len) (p .links)
   pub long : p .some ≡ true → p .len ≡ 1
   pub none : p .some ≡ false → (q : List ℕ) → List·Memᴰ q (routesOut v 1 x) → endsOver v u z (2 ^ y) q ≡ 0 → ⊥

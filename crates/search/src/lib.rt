@@ -36,7 +36,12 @@ fn steps_of(w: Route) -> Steps
 fn no_pair() -> Pair
     ensures { λ r. ⌜ r .kind ≡ 0 ⌝ }
 {
-    let w = steps::none();
+    let w = Route {
+        some: false,
+        len: 0,
+        links: [0u16; 4],
+        words: [0u64; 5],
+    };
     Pair {
         kind: 0,
         first: w,
@@ -121,14 +126,21 @@ fn one_link(
     requires { ⌜ Ready (now sa) (now ta) (now sb) (now tb) x y ⌝ }
     ensures { λ r. ⌜ Single (viewOf (now (sa .entry)) (now (la .entry)) (now (ta .entry))) (viewOf (now (sb .entry)) (now (lb .entry)) (now (tb .entry))) (now (z .entry)) x y r ⌝ }
 {
-    let mut p = steps::first_route(sa, la, ta, sb, lb, tb, z, x, y, 1);
-    while p.some {
-        if steps::word_of(p) == 0 {
-            return p;
+    let mut links = [0u16; 4];
+    let mut words = [0u64; 5];
+    let mut some = steps::first_route(sa, la, ta, sb, lb, tb, z, x, y, &mut links, &mut words, 1);
+    while some {
+        if words[1] == 0 {
+            break;
         }
-        p = steps::next_route(sa, la, ta, sb, lb, tb, z, x, p);
+        some = steps::next_route(sa, la, ta, sb, lb, tb, z, x, &mut links, &mut words, 1);
     }
-    p
+    Route {
+        some,
+        len: 1,
+        links,
+        words,
+    }
 }
 
 // The reason to part x and y, from x's side, under the relation z: row i of z has the cells related to cell i. First a link without

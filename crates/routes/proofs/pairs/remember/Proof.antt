@@ -7,17 +7,20 @@ use Rattle.routes.proofs.pairs.remember.Tie as tie
 end-of-requires : tie.Need-end-of-requires
 end-of-requires c κs = search needs
 
-cast-at : tie.Need-cast-at
-cast-at c = search needs
+mul-memo : tie.Need-mul-memo
+mul-memo c = search needs
 
-word-of-requires : tie.Need-word-of-requires
-word-of-requires c κs = search needs
+element-copy-out-memo : tie.Need-element-copy-out-memo
+element-copy-out-memo c = search needs
 
-mul-n : tie.Need-mul-n
-mul-n c = search needs
+cast-memo : tie.Need-cast-memo
+cast-memo c = search needs
 
-element-write-n : tie.Need-element-write-n
-element-write-n c = search needs
+mul-memo-2 : tie.Need-mul-memo-2
+mul-memo-2 c = search needs
+
+element-write-memo : tie.Need-element-write-memo
+element-write-memo c = search needs
 
 with-requires : tie.Need-with-requires
 with-requires c κs = search needs
@@ -28,4 +31,12 @@ returns c = search remember-is
 pub remember-spec : {M : Type 1} → statement M
 remember-spec =
     tie.close
-    (tie.spec end-of-requires cast-at word-of-requires mul-n element-write-n with-requires returns)
+    (tie.spec
+    end-of-requires
+    mul-memo
+    element-copy-out-memo
+    cast-memo
+    mul-memo-2
+    element-write-memo
+    with-requires
+    returns)

@@ -7,14 +7,17 @@ use Rattle.routes.proofs.pairs.seen.Tie as tie
 end-of-requires : tie.Need-end-of-requires
 end-of-requires c κs = search needs
 
-word-of-requires : tie.Need-word-of-requires
-word-of-requires c κs = search needs
+mul-w : tie.Need-mul-w
+mul-w c = search needs
+
+element-copy-out-w : tie.Need-element-copy-out-w
+element-copy-out-w c = search needs
 
 has-requires : tie.Need-has-requires
 has-requires c κs = search needs
 
-cast-at : tie.Need-cast-at
-cast-at c = search needs
+cast-result : tie.Need-cast-result
+cast-result c = search needs
 
 mul-result : tie.Need-mul-result
 mul-result c = search needs
@@ -33,9 +36,10 @@ seen-spec =
     tie.close
     (tie.spec
     end-of-requires
-    word-of-requires
+    mul-w
+    element-copy-out-w
     has-requires
-    cast-at
+    cast-result
     mul-result
     element-copy-out-result
     returns

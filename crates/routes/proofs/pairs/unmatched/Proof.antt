@@ -7,8 +7,11 @@ use Rattle.routes.proofs.pairs.unmatched.Tie as tie
 end-of-requires : tie.Need-end-of-requires
 end-of-requires c κs = search needs
 
-word-of-requires : tie.Need-word-of-requires
-word-of-requires c κs = search needs
+mul-w : tie.Need-mul-w
+mul-w c = search needs
+
+element-copy-out-w : tie.Need-element-copy-out-w
+element-copy-out-w c = search needs
 
 fails-requires : tie.Need-fails-requires
 fails-requires c κs = search needs
@@ -30,7 +33,8 @@ unmatched-spec =
     tie.close
     (tie.spec
     end-of-requires
-    word-of-requires
+    mul-w
+    element-copy-out-w
     fails-requires
     returns
     fails-requires-2

@@ -1,6 +1,6 @@
 -- `routes::steps::end_of` meets its contract. Assumes nothing.
 use borrow.Author.Needs.{needs}
-use Rattle.routes.proofs.OneRoute.{end-none, last-below, last-low, end-last}
+use Rattle.routes.proofs.OneRoute.{end-none, last-below, last-wide, last-low, end-last}
 use Rattle.routes.proofs.steps.end_of.Statement.{statement}
 use Rattle.routes.proofs.steps.end_of.Tie as tie
 
@@ -20,7 +20,7 @@ element-copy-out-k : tie.Need-element-copy-out-k
 element-copy-out-k c = search needs
 
 cast-result : tie.Need-cast-result
-cast-result c = search needs
+cast-result c = record { fits = search last-wide }
 
 element-copy-out-result : tie.Need-element-copy-out-result
 element-copy-out-result c = search last-below

@@ -4,8 +4,11 @@ use Rattle.routes.proofs.Turns.{first-stay, first-begun, first-turn}
 use Rattle.routes.proofs.steps.first_route.Statement.{statement}
 use Rattle.routes.proofs.steps.first_route.Tie as tie
 
-stay-requires : tie.Need-stay-requires
-stay-requires c κs = search needs
+only-requires : tie.Need-only-requires
+only-requires c κs = search needs
+
+element-write-words : tie.Need-element-write-words
+element-write-words c = search needs
 
 returns : tie.Need-returns
 returns c = search first-stay
@@ -24,4 +27,12 @@ returns-2 c = search first-turn
 
 pub first-route-spec : {M : Type 1} → statement M
 first-route-spec =
-    tie.close (tie.spec stay-requires returns mul-k element-copy-out-k advance-requires returns-2)
+    tie.close
+    (tie.spec
+    only-requires
+    element-write-words
+    returns
+    mul-k
+    element-copy-out-k
+    advance-requires
+    returns-2)

@@ -4,20 +4,23 @@ use Rattle.routes.proofs.Turns.{next-none, next-room, next-begun, next-
 use Rattle.routes.proofs.steps.next_route.Statement.{statement}
 use Rattle.routes.proofs.steps.next_route.Tie as tie
 
-none-requires : tie.Need-none-requires
-none-requires c κs = search needs
-
 returns : tie.Need-returns
 returns c = search next-none
 
-last-link-requires : tie.Need-last-link-requires
-last-link-requires c κs = search needs
+sub-n : tie.Need-sub-n
+sub-n c = search needs
+
+cast-k : tie.Need-cast-k
+cast-k c = search needs
+
+mul-k : tie.Need-mul-k
+mul-k c = search needs
+
+element-copy-out-k : tie.Need-element-copy-out-k
+element-copy-out-k c = search needs
 
 add-k : tie.Need-add-k
 add-k c = record { fits = search next-room }
-
-pop-requires : tie.Need-pop-requires
-pop-requires c κs = search needs
 
 advance-requires : tie.Need-advance-requires
 advance-requires c κs = search next-begun
@@ -28,11 +31,4 @@ returns-2 c = search next-turn
 pub next-route-spec : {M : Type 1} → statement M
 next-route-spec =
     tie.close
-    (tie.spec
-    none-requires
-    returns
-    last-link-requires
-    add-k
-    pop-requires
-    advance-requires
-    returns-2)
+    (tie.spec returns sub-n cast-k mul-k element-copy-out-k add-k advance-requires returns-2)
