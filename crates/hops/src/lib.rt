@@ -38,7 +38,7 @@ pub fn starts(count: usize, from: &[u8; 512]) -> [u16; 65]
 }
 
 // The cells that a link with the label leads to from cell x.
-fn targets(starts: &[u16; 65], labels: &[u16; 512], to: &[u8; 512], x: u8, label: u16) -> u64
+pub fn targets(starts: &[u16; 65], labels: &[u16; 512], to: &[u8; 512], x: u8, label: u16) -> u64
     requires { ⌜ Opened (now starts) (now to) × (x < 64) ⌝ }
     ensures { λ r. ⌜ r ≡ reached (hopsOf (viewOf (now (starts .entry)) (now (labels .entry)) (now (to .entry))) x) label ⌝ }
 {

@@ -16,7 +16,7 @@ use Rattle.sheet.specs.Entry.{Entry, negation, entryWith, way}
 use Rattle.sheet.specs.Written.{sizeOf}
 use Rattle.sheet_writer.specs.Writing.{step, stepsFrom, stepsGiven, StepsFit, WaysFit, Wrote}
 use Rattle.hops.specs.Hops.{viewOf}
-use Rattle.routes.specs.Order.{pathOf}
+use Rattle.classes.specs.Paths.{pathOf}
 use Rattle.search.specs.Reasons.{pathIn}
 use Rattle.search.specs.Laws.{reason-link, reason-same, reason-differ}
 use Rattle.search.specs.declared.Steps.{Steps}

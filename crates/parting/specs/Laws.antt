@@ -13,7 +13,7 @@ use Rattle.theory.specs.Path.{Hop, Path, Walk}
 use Rattle.theory.specs.Bisimulation.{Relation}
 use Rattle.theory.specs.Parting.{byLink, byPaths, Fails}
 use Rattle.hops.specs.Hops.{View, viewOf, hopAt}
-use Rattle.routes.specs.Order.{pathOf}
+use Rattle.classes.specs.Paths.{pathOf}
 use Rattle.search.specs.Reasons.{Posed, pathIn, reasonOf, Numbered, Answered}
 use Rattle.search.specs.Laws.{reason-link, reason-same, reason-differ, steps-length, steps-at}
 use Rattle.search.specs.declared.Steps.{Steps}

@@ -1,5 +1,2 @@
-pub mod Orders
-pub mod OneRoute
-pub mod Turns
-pub mod Scans
-pub mod Skips
+pub mod Clashes
+pub mod Loops

@@ -1,5 +1,3 @@
-pub mod Order
-pub mod Held
 pub mod Pairs
-pub mod Along
-pub mod Seen
+pub mod Tails
+pub mod Laws

@@ -1,47 +1,84 @@
 -- Two paths without counterpart, over the words that the search computes.
-use mathlib.Core.Bool.{Bool, cond, _&&_}
+use mathlib.Core.Bool.{Bool, So, cond, not, _&&_}
 use mathlib.Core.Path.{_≡_}
-use mathlib.Core.List.{List, List·Memᴰ}
+use mathlib.Core.List.{List}
 use Prim.Native.Nat.{ℕ, _^_, _≤_, _<_}
 use lib.Bits.{bitAnd}
 use lib.Dec.{eqb}
+use lib.ListN.{length, getD, take}
 use Rattle.words.specs.Words.{bit}
 use Rattle.hops.specs.Hops.{View, Opened}
 use Rattle.hops.specs.Sets.{spread, rowAt}
-use Rattle.routes.specs.declared.pairs.Wanted.{Wanted}
-use Rattle.routes.specs.declared.pairs.Pair.{Pair}
-use Rattle.routes.specs.Order.{endOf, routesOut}
-use Rattle.routes.specs.Held.{linksIn, endsOver, Listed}
-
--- What a first path asks of a second for comparison t, where it ends at e and the paths alike to it in w.
-unfoldable pub wantedOf : List ℕ → List ℕ → ℕ → ℕ → ℕ → Wanted
-wantedOf ea eb t e w = record { ends = rowAt ea t e; answers = spread (rowAt eb t) w }
-
--- A second path that ends at e, and the paths alike to it in w, has no counterpart.
-unfoldable pub failing : Wanted → ℕ → ℕ → Bool
-failing n e w = bit (n .ends) e && eqb (bitAnd w (n .answers)) 0
+use Rattle.classes.specs.Paths.{Trail, endOf, endsOver}
+use Rattle.routes.specs.declared.Wanted.{Wanted}
+use Rattle.routes.specs.declared.Clash.{Clash}
+use Rattle.routes.specs.declared.Route.{Route}
+use Rattle.routes.specs.declared.Pair.{Pair}
 
 -- The kind of entry by which two paths fail (01: kind 5 same, 6 differ), and 0 where they do not.
 unfoldable pub kindOf : Bool → Bool → ℕ
 kindOf same differ = cond same 5 (cond differ 6 0)
 
+-- Two paths with the tips (x, w) and (y, o): their ends pass comparison t, and no two of those alike to them do.
+unfoldable pub failing : List ℕ → List ℕ → ℕ → ℕ → ℕ → ℕ → ℕ → Bool
+failing ea eb t x w y o = bit (rowAt ea t x) y && eqb (bitAnd o (spread (rowAt eb t) w)) 0
+
+-- The kind by which two paths with these tips fail.
+unfoldable pub fault : List ℕ → List ℕ → ℕ → ℕ → ℕ → ℕ → ℕ
+fault ea eb x w y o = kindOf (failing ea eb 0 x w y o) (failing ea eb 1 x w y o)
+
 -- The paths p and q from x pass comparison t, and no two from y that are alike to them do.
 unfoldable pub alone : View → View → List ℕ → List ℕ → List ℕ → ℕ → ℕ → ℕ → List ℕ → List ℕ → Bool
-alone v u z ea eb x y t p q =
-    failing (wantedOf ea eb t (endOf (v .to) x p) (endsOver v u z (2 ^ y) p)) (endOf (v .to) x q) (endsOver v u z (2 ^ y) q)
+alone v u z ea eb x y t p q = failing ea eb t (endOf v x p) (endsOver v u z (2 ^ y) p) (endOf v x q) (endsOver v u z (2 ^ y) q)
 
 -- The kind by which they fail.
 unfoldable pub failure : View → View → List ℕ → List ℕ → List ℕ → ℕ → ℕ → List ℕ → List ℕ → ℕ
 failure v u z ea eb x y p q = kindOf (alone v u z ea eb x y 0 p q) (alone v u z ea eb x y 1 p q)
 
+-- What a class with the ends l and the set r asks for comparison t.
+unfoldable pub wantedOf : List ℕ → List ℕ → ℕ → ℕ → ℕ → Wanted
+wantedOf ea eb t l r = record { ends = spread (rowAt ea t) l; answers = spread (rowAt eb t) r }
+
+-- Some path of a class with the ends l and the set r has no counterpart.
+unfoldable pub missing : Wanted → ℕ → ℕ → Bool
+missing n l r = not (eqb (bitAnd (n .ends) l) 0) && eqb (bitAnd r (n .answers)) 0
+
+-- The kind by which it has none.
+unfoldable pub classFault : Wanted → Wanted → ℕ → ℕ → ℕ
+classFault same differ l r = kindOf (missing same l r) (missing differ l r)
+
+-- The kind by which paths of class p of one table and of class q of another fail.
+abbrev pub clashing : List ℕ → List ℕ → List ℕ → List ℕ → List ℕ → List ℕ → ℕ → ℕ → ℕ
+clashing ea eb pl pr ql qr p q =
+    classFault (wantedOf ea eb 0 (getD pl p 0) (getD pr p 0)) (wantedOf ea eb 1 (getD pl p 0) (getD pr p 0)) (getD ql q 0) (getD qr q 0)
+
+-- Two classes with paths that fail, or that there are none.
+pub record Clashed (ea eb pl pr : List ℕ) (pn : ℕ) (ql qr : List ℕ) (qn : ℕ) (r : Clash) : Type 0 where
+  pub first : (r .kind ≡ 0 → ⊥) → r .first < pn
+  pub second : (r .kind ≡ 0 → ⊥) → r .second < qn
+  pub fails : (r .kind ≡ 0 → ⊥) → r .kind ≡ clashing ea eb pl pr ql qr (r .first) (r .second)
+  pub none : r .kind ≡ 0 → (p q : ℕ) → p < pn → q < qn → clashing ea eb pl pr ql qr p q ≡ 0
+
+-- A node of l that passes comparison t with y, if there is one.
+pub record Partner (ea : List ℕ) (t l y x : ℕ) : Type 0 where
+  pub low : x < 64
+  pub found : So (bit (spread (rowAt ea t) l) y) → So (bit l x) × So (bit (rowAt ea t x) y)
+
+-- The links of a route.
+abbrev pub linksIn : Route → List ℕ
+linksIn w = take (w .len) (w .links)
+
+-- The route is of d links.
+pub record Shaped (d : ℕ) (w : Route) : Type 0 where
+  pub long : w .len ≡ d
+  pub room : length (w .links) ≡ 4
+
 -- Two paths of i and j links that fail, or that there are none.
 pub record Sought (v u : View) (z ea eb : List ℕ) (x y i j : ℕ) (r : Pair) : Type 0 where
-  pub first : (r .kind ≡ 0 → ⊥) → List·Memᴰ (linksIn (r .first)) (routesOut v i x)
-  pub second : (r .kind ≡ 0 → ⊥) → List·Memᴰ (linksIn (r .second)) (routesOut v j x)
+  pub first : (r .kind ≡ 0 → ⊥) → Shaped i (r .first) × Trail v x (linksIn (r .first))
+  pub second : (r .kind ≡ 0 → ⊥) → Shaped j (r .second) × Trail v x (linksIn (r .second))
   pub fails : (r .kind ≡ 0 → ⊥) → r .kind ≡ failure v u z ea eb x y (linksIn (r .first)) (linksIn (r .second))
-  pub listed : (r .kind ≡ 0 → ⊥) → Listed (v .to) (r .first .len) (r .first .links) × Listed (v .to) (r .second .len) (r .second .links)
-  pub long : (r .kind ≡ 0 → ⊥) → (r .first .len ≡ i) × (r .second .len ≡ j)
-  pub none : r .kind ≡ 0 → (p q : List ℕ) → List·Memᴰ p (routesOut v i x) → List·Memᴰ q (routesOut v j x) → failure v u z ea eb x y p q ≡ 0
+  pub none : r .kind ≡ 0 → (p q : List ℕ) → Trail v x p → length p ≡ i → Trail v x q → length q ≡ j → failure v u z ea eb x y p q ≡ 0
 
 -- What the search asks.
 pub record Asked (sa ta sb tb : List ℕ) (x y i j : ℕ) : Type 0 where

@@ -2,14 +2,14 @@
 use mathlib.Core.Bool.{Bool, true, false, So, cond, not, _&&_, false≢true}
 use mathlib.Core.Path.{_≡_, refl, sym, ap, _∙_}
 use mathlib.Core.Logic.{_⊎_, inl, inr, ⊎-elim}
-use mathlib.Core.List.{List, [], _∷_, List·Memᴰ}
+use mathlib.Core.List.{List, [], _∷_}
 use Prim.Native.Nat.{ℕ, suc, _+_, _^_, _≤_, _<_}
 use native.Mathlib.Omega.{arith}
 use borrow.Author.Tests.{not-true, ne-eqb}
 use lib.Dec.{eqb}
 use lib.ListN.{length, getD}
 use lib.Pow.{pow-lt}
-use lib.Seq.{getD-take}
+use lib.Seq.{getD-take, length-take-le}
 use Rattle.theory.specs.Tests.{le-or-lt, any-iff, and-iff, facts}
 use Rattle.theory.specs.Graph.{Comparison, same, differ, Graph, linked}
 use Rattle.theory.specs.Path.{Hop, hop, Path, Walk, end}
@@ -20,29 +20,18 @@ use Rattle.theory.specs.Clauses.{Into, met-iff, zigs-iff}
 use Rattle.theory.specs.Parting.{byPaths, LinkFails, PathsFail, Fails}
 use Rattle.words.specs.Words.{bit}
 use Rattle.words.specs.Laws.{bit-zero}
-use Rattle.hops.specs.Hops.{View, hopAt}
-use Rattle.routes.specs.declared.steps.Route.{Route}
-use Rattle.routes.specs.declared.pairs.Pair.{Pair}
-use Rattle.routes.specs.Order.{pathOf, routesOut}
-use Rattle.routes.specs.Held.{linksIn, endsOver, Listed}
-use Rattle.routes.specs.Pairs.{kindOf, alone, failure}
+use Rattle.hops.specs.Hops.{View, startOf, toOf, hopAt, Opened}
+use Rattle.classes.specs.Paths.{Trail, pathOf, endsOver}
+use Rattle.classes.specs.Laws.{leaves-below, leaves-low, trail-links}
+use Rattle.routes.specs.declared.Route.{Route}
+use Rattle.routes.specs.declared.Pair.{Pair}
+use Rattle.routes.specs.Pairs.{alone, failure, linksIn, Shaped}
+use Rattle.routes.specs.Laws.{kind-none, kind-some}
+use Rattle.search.specs.declared.Steps.{Steps}
 use Rattle.search.specs.declared.Reason.{Reason}
-use Rattle.search.specs.Lengths.{Most, Clear, Shown, Fewest, Single}
+use Rattle.search.specs.Lengths.{Most, Clear, Shown, Fewest, Unanswered, Single}
 use Rattle.search.specs.Reasons.{numberOf, Posed, stepsOf, pathIn, reasonOf, Numbered, Answered}
-use Rattle.search.specs.Bridge.{one-out, route-walk, walk-route, test-off, relationOf, some-node, ends-from, over-lt, met-ext, alone-is}
-
--- ---- kinds
-kind-none : (a b : Bool) → kindOf a b ≡ 0 → (a ≡ false) × (b ≡ false)
-unfolding kindOf
-kind-none true b e = absurd (omega arith)
-kind-none false true e = absurd (omega arith)
-kind-none false false e = (refl, refl)
-
-kind-some : (a b : Bool) → (kindOf a b ≡ 0 → ⊥) → ((kindOf a b ≡ 5) × So a) ⊎ ((kindOf a b ≡ 6) × So b)
-unfolding kindOf
-kind-some true b f = inl (refl, refl)
-kind-some false true f = inr (refl, refl)
-kind-some false false f = absurd (f refl)
+use Rattle.search.specs.Bridge.{path-length, leaves-linked, linked-leaves, trail-walk, walk-trail, test-off, relationOf, some-node, ends-from, over-lt, met-ext, alone-is}
 
 met-on : (a b : Bool) → a && not b ≡ false → So a → So b
 met-on true true e d = refl
@@ -53,8 +42,17 @@ met-on false b e d = absurd (false≢true d)
 abbrev comparisonOf : ℕ → Comparison
 comparisonOf k = cond (eqb k 5) same differ
 
-numbered-of : (to : List ℕ) (c : ℕ) (w : Route) → Listed to (w .len) (w .links) → w .len ≤ c → Numbered to c (stepsOf w)
-numbered-of to c w h l = record { short = l; links = h .links; below = h .below; low = h .low }
+module _ (v : View) (o : Opened (v .starts) (v .to)) (x : ℕ) (l : x < 64) where
+  numbered-of : (c d : ℕ) (w : Route) → Shaped d w → Trail v x (linksIn w) → d ≤ c → c ≤ 4 → Numbered (v .to) c (stepsOf w)
+  numbered-of c d w h t m n = record {
+    short = omega (arith, h .long);
+    links = h .room;
+    below = λ i b. rw getD-take at (each i b .0);
+    low = λ i b. rw getD-take at (each i b .1);
+  }
+    where
+      each : (i : ℕ) → i < w .len → (getD (linksIn w) i 0 < 512) × (toOf v (getD (linksIn w) i 0) < 64)
+      each i b = trail-links v o x (linksIn w) l t i (omega (arith, length-take-le (w .len) (w .links) (omega (arith, h .long, h .room))))
 
 reason-is : (v : View) (s : Reason) (k : ℕ) → s .kind ≡ k → (k ≡ 4 → ⊥) → reasonOf v s ≡ byPaths (comparisonOf k) (pathIn v (s .first)) (pathIn v (s .second))
 unfolding reasonOf
@@ -78,22 +76,22 @@ module _ (l r : Graph) (z : Relation) (v u : View) (rows ea eb : List ℕ) (a b 
       ∙ ap (λ (m : Bool). l .ends t (end a (pathOf v p)) (end a (pathOf v q)) && not m) (met-rows t (pathOf v p) (pathOf v q) wp wq)
 
   -- two paths that are alone fail
-  paths-fail : (t : Comparison) (i j : ℕ) (p q : List ℕ) → List·Memᴰ p (routesOut v i a) → List·Memᴰ q (routesOut v j a) → i ≤ c → j ≤ c
+  paths-fail : (t : Comparison) (p q : List ℕ) → Trail v a p → Trail v a q → length p ≤ c → length q ≤ c
       → So (alone v u rows ea eb a b (numberOf t) p q) → PathsFail l r c z a b t (pathOf v p) (pathOf v q)
-  paths-fail t i j p q mp mq li lj e =
-      let (wp, np) = route-walk v l ea (d .left) i a p at-left mp in
-      let (wq, nq) = route-walk v l ea (d .left) j a q at-left mq in
+  paths-fail t p q tp tq lp lq e =
+      let wp = trail-walk v l ea (d .left) a p at-left tp in
+      let wq = trail-walk v l ea (d .left) a q at-left tq in
       let (f, g) = and-iff _ _ .0 (sym (alone-at t p q wp wq) ∙ e) in
-      record { short = omega arith; short′ = omega arith; walk = wp; walk′ = wq; ends = f; missing = not-true _ g }
+      record { short = rw path-length lp; short′ = rw path-length lq; walk = wp; walk′ = wq; ends = f; missing = not-true _ g }
 
   -- paths of cleared lengths have a counterpart
   clear-met : (t : Comparison) (p q : Path) → Clear v u rows ea eb a b (length p) (length q) → Walk l a p → Walk l a q
       → l .ends t (end a p) (end a q) ≡ true → So (met r z b t p q)
   unfolding failure
   clear-met t p q k wp wq e =
-      let (p′, mp, dp) = walk-route v l ea (d .left) (length p) a p at-left wp refl in
-      let (q′, mq, dq) = walk-route v l ea (d .left) (length q) a q at-left wq refl in
-      let (n, m) = kind-none _ _ (k .each p′ q′ mp mq) in
+      let (p′, tp, dp) = walk-trail v l ea (d .left) a p at-left wp in
+      let (q′, tq, dq) = walk-trail v l ea (d .left) a q at-left wq in
+      let (n, m) = kind-none _ _ (k .each p′ q′ tp (sym (path-length v p′) ∙ ap length dp) tq (sym (path-length v q′) ∙ ap length dq)) in
       let off : alone v u rows ea eb a b (numberOf t) p′ q′ ≡ false = by t p′ q′ n m in
       met-on _ _ (rw (dp, dq) at (sym (alone-at t p′ q′ (rw dp wp) (rw dq wq)) ∙ off)) e
     where
@@ -125,37 +123,37 @@ module _ (l r : Graph) (z : Relation) (v u : View) (rows ea eb : List ℕ) (a b 
         (le-or-lt n (length p + length q))
 
   -- ---- one link
-  link-fails : (k : ℕ) → List·Memᴰ (k ∷ []) (routesOut v 1 a) → endsOver v u rows (2 ^ b) (k ∷ []) ≡ 0 → LinkFails l r z a b (hopAt v k)
-  unfolding Walk pathOf follow
-  link-fails k m e =
-      let (w, _) = route-walk v l ea (d .left) 1 a (k ∷ []) at-left m in
+  link-fails : (k : ℕ) → Unanswered v u rows a b k → LinkFails l r z a b (hopAt v k)
+  unfolding pathOf follow endsOver
+  link-fails k n =
+      let e = leaves-linked v l ea (d .left) a k at-left (n .leaves) in
       record {
-        there = w .0;
+        there = e;
         missing = test-off _ (λ h.
             let (y, ly, (i, j)) = simp (any-iff, and-iff) at h in
             let small : y < 64 = omega (arith, d .right .small) in
-            let near = linked-inside (d .left .formed) a (hopAt v k .label) (hopAt v k .to) (w .0) in
+            let near = linked-inside (d .left .formed) a (hopAt v k .label) (hopAt v k .to) e in
             let f : So (follow r (relationOf rows) (pathOf v (k ∷ [])) b y) = simp facts (y, ly, ((i, d .related _ y near ly ∙ j), refl)) in
-            false≢true (sym (bit-zero y) ∙ ap (λ (x : ℕ). bit x y) (sym e) ∙ ends-from v u r eb (d .right) rows b at-right (k ∷ []) y small .1 f));
+            false≢true (sym (bit-zero y) ∙ ap (λ (x : ℕ). bit x y) (sym (n .none)) ∙ ends-from v u r eb (d .right) rows b at-right (k ∷ []) y small .1 f));
       }
 
-  link-met : ((q : List ℕ) → List·Memᴰ q (routesOut v 1 a) → endsOver v u rows (2 ^ b) q ≡ 0 → ⊥) → (e w : ℕ) → linked l a e w ≡ true
-      → (w′ : ℕ) × (linked r b e w′ ≡ true) × (z w w′ ≡ true)
-  unfolding Walk follow
+  link-met : ((k : ℕ) → Unanswered v u rows a b k → ⊥) → (e w : ℕ) → linked l a e w ≡ true → (w′ : ℕ) × (linked r b e w′ ≡ true) × (z w w′ ≡ true)
+  unfolding pathOf follow endsOver
   link-met n e w k =
-      let (q, m, o) = walk-route v l ea (d .left) 1 a (hop e w ∷ []) at-left (k, tt) refl in
-      let (i, li, f) = some-node (endsOver v u rows (2 ^ b) q) (over-lt v u rows q (2 ^ b) (pow-lt at-right)) (n q m) in
-      let g : So (follow r (relationOf rows) (hop e w ∷ []) b i) = rw o at (ends-from v u r eb (d .right) rows b at-right q i li .0 f) in
+      let (j, o, q) = linked-leaves v l ea (d .left) a e w at-left k in
+      let (i, li, f) = some-node (endsOver v u rows (2 ^ b) (j ∷ [])) (over-lt v u rows (j ∷ []) (2 ^ b) (pow-lt at-right)) (λ s. n j (record { leaves = o; none = s })) in
+      let g : So (follow r (relationOf rows) (hop e w ∷ []) b i) =
+      ap (λ (h : Hop). follow r (relationOf rows) (h ∷ []) b i) q ∙ ends-from v u r eb (d .right) rows b at-right (j ∷ []) i li .0 f in
       let (i′, li′, ((t, j), _)) = simp (any-iff, and-iff) at g in
       (i′, t, sym (d .related w i′ (linked-inside (d .left .formed) a e w k) li′) ∙ j)
 
-  link-stands : ((q : List ℕ) → List·Memᴰ q (routesOut v 1 a) → endsOver v u rows (2 ^ b) q ≡ 0 → ⊥) → (h : Hop) → LinkFails l r z a b h → ⊥
+  link-stands : ((k : ℕ) → Unanswered v u rows a b k → ⊥) → (h : Hop) → LinkFails l r z a b h → ⊥
   link-stands n h f =
       let (w, i, j) = link-met n (h .label) (h .to) (f .there) in
       false≢true (sym (f .missing) ∙ simp (any-iff, and-iff) (w, linked-inside (d .right .formed) b (h .label) w i, (i, j)))
 
   -- ---- nothing is owed
-  owes-none : ((q : List ℕ) → List·Memᴰ q (routesOut v 1 a) → endsOver v u rows (2 ^ b) q ≡ 0 → ⊥)
+  owes-none : ((k : ℕ) → Unanswered v u rows a b k → ⊥)
       → ((k m : ℕ) → Most c k m → Clear v u rows ea eb a b k m) → zigs l r c z a b ≡ true
   owes-none one two =
       zigs-iff r z into l c a b (d .there) .1
@@ -169,28 +167,31 @@ module _ (l r : Graph) (z : Relation) (v u : View) (rows ea eb : List ℕ) (a b 
       into b x y h e _ = linked-inside (d .right .formed) b x y e
 
 -- ---- the two searches, one after the other
-module _ (v u : View) (rows ea eb : List ℕ) (a b c : ℕ) (p : Route) (l : Single v u rows a b p) where
-  pub why-link : p .some ≡ true → (s : Reason) → s .kind ≡ 4 → s .first ≡ stepsOf p → s .second .len ≡ 0 → Answered v u rows ea eb a b c s
+module _ (v u : View) (rows ea eb : List ℕ) (a b c : ℕ) (o : Opened (v .starts) (v .to)) (low : a < 64) (n : ℕ) (l : Single v u rows a b n) where
+  pub why-link : n < startOf v (a + 1) → (s : Reason) → s .kind ≡ 4 → s .first ≡ record { len = 1; links = n ∷ 0 ∷ 0 ∷ 0 ∷ [] } → s .second .len ≡ 0
+      → Answered v u rows ea eb a b c s
   unfolding reasonOf
   why-link t s k e f = record {
     known = λ _. (omega arith, omega arith);
-    one = λ _. (rw e (numbered-of (v .to) 1 p (l .listed t) (omega (arith, l .long t))), rw e (l .long t), f);
+    one = λ _. (
+      rw e (record {
+        short = omega arith;
+        links = refl;
+        below = λ i m. let z : i ≡ 0 = omega arith in rw z (omega (arith, leaves-below v o a n low (l .found t .leaves), o .few));
+        low = λ i m. let z : i ≡ 0 = omega arith in rw z (leaves-low v o a n low (l .found t .leaves));
+      }),
+      ap (λ (w : Steps). w .len) e,
+      f,
+    );
     two = λ h. absurd (omega arith);
-    fails = λ g h z d _. rw (k, e) (link g h z d);
+    fails = λ g h z d _. rw (k, e) (link-fails g h z v u rows ea eb a b c d n (l .found t));
     links = λ _ _ _ _ h. absurd (omega arith);
     fewest = λ _ _ _ _ h. absurd (omega arith);
     none = λ _ _ _ _ h. absurd (omega arith);
   }
-    where
-      link : (g h : Graph) (z : Relation) → Posed g h z v u rows ea eb a b → LinkFails g h z a b (hopAt v (getD (p .links) 0 0))
-      link g h z d =
-          let (m, n) = l .found t in
-          let (k, q) = one-out v a (linksIn p) m in
-          let is : getD (p .links) 0 0 ≡ k = sym (getD-take (p .len) (p .links) 0 0 (omega (arith, l .long t))) ∙ ap (λ (w : List ℕ). getD w 0 0) q in
-          rw is (link-fails g h z v u rows ea eb a b c d k (rw q at m) (rw q at n))
 
-  module _ (t : p .some ≡ false) (r : Pair) (f : Fewest v u rows ea eb a b c r) (s : Reason) (k : s .kind ≡ r .kind) (e : s .first ≡ stepsOf (r .first))
-      (e′ : s .second ≡ stepsOf (r .second)) where
+  module _ (t : startOf v (a + 1) ≤ n) (small : c ≤ 4) (r : Pair) (f : Fewest v u rows ea eb a b c r) (s : Reason) (k : s .kind ≡ r .kind)
+      (e : s .first ≡ stepsOf (r .first)) (e′ : s .second ≡ stepsOf (r .second)) where
     -- by which comparison the paths fail
     by-kind : {i j : ℕ} → Shown v u rows ea eb a b i j r → (s .kind ≡ 0 → ⊥)
         → ((s .kind ≡ 5) × So (alone v u rows ea eb a b 0 (linksIn (r .first)) (linksIn (r .second))))
@@ -198,10 +199,14 @@ module _ (v u : View) (rows ea eb : List ℕ) (a b c : ℕ) (p : Route) (l : Sin
     unfolding failure
     by-kind w n =
         let d = k ∙ w .fails in
-        ⊎-elim (λ (h, o). inl (d ∙ h, o)) (λ (h, o). inr (d ∙ h, o)) (kind-some _ _ (λ z. n (d ∙ z)))
+        ⊎-elim (λ (h, o). inl (d ∙ h, o)) (λ (h, _, o). inr (d ∙ h, o)) (kind-some _ _ (λ z. n (d ∙ z)))
 
     some : (s .kind ≡ 0 → ⊥) → r .kind ≡ 0 → ⊥
     some n z = n (k ∙ z)
+
+    -- a path of d links
+    short : (d : ℕ) (w : Route) → Shaped d w → d ≤ c → length (linksIn w) ≤ c
+    short d w h m = omega (arith, length-take-le (w .len) (w .links) (omega (arith, h .long, h .room)), h .long)
 
     pub why-two : Answered v u rows ea eb a b c s
     why-two = record {
@@ -212,8 +217,8 @@ module _ (v u : View) (rows ea eb : List ℕ) (a b c : ℕ) (p : Route) (l : Sin
           ⊎-elim (λ (five, _). absurd (omega arith)) (λ (six, _). absurd (omega arith)) (by-kind w n));
       two = λ h. (let (i, j, m, w) = f .outcome .found (some (λ z. omega arith)) in
           rw (e, e′) (
-            numbered-of (v .to) c (r .first) (w .listed .0) (omega (arith, w .long .0, m .order, m .most)),
-            numbered-of (v .to) c (r .second) (w .listed .1) (omega (arith, w .long .1, m .most)),
+            numbered-of v o a low c i (r .first) (w .first .0) (w .first .1) (omega (arith, m .order, m .most)) small,
+            numbered-of v o a low c j (r .second) (w .second .0) (w .second .1) (m .most) small,
           ));
       fails = fails-of;
       links = λ g h z d _. link-stands g h z v u rows ea eb a b c d (l .none t);
@@ -227,7 +232,7 @@ module _ (v u : View) (rows ea eb : List ℕ) (a b c : ℕ) (p : Route) (l : Sin
             let (i, j, m, w) = f .outcome .found (some n) in
             let fail : (t : Comparison) → So (alone v u rows ea eb a b (numberOf t) (linksIn (r .first)) (linksIn (r .second)))
             → PathsFail g h c z a b t (pathIn v (stepsOf (r .first))) (pathIn v (stepsOf (r .second))) =
-            λ t o. paths-fail g h z v u rows ea eb a b c d t i j _ _ (w .first) (w .second) (omega (arith, m .order, m .most)) (m .most) o in
+            λ t o. paths-fail g h z v u rows ea eb a b c d t _ _ (w .first .1) (w .second .1) (short i (r .first) (w .first .0) (omega (arith, m .order, m .most))) (short j (r .second) (w .second .0) (m .most)) o in
             ⊎-elim
             (λ (q, o). rw (reason-is v s 5 q (λ z. omega arith), e, e′) (fail same o))
             (λ (q, o). rw (reason-is v s 6 q (λ z. omega arith), e, e′) (fail differ o))

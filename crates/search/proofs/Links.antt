@@ -1,46 +1,46 @@
 -- The loop over single links. Assumes nothing.
-use mathlib.Core.Bool.{true, false, false≢true}
 use mathlib.Core.Path.{_≡_, sym, _∙_}
+use mathlib.Core.Logic.{⊎-elim}
 use mathlib.Core.List.{List}
-use Prim.Native.Nat.{ℕ, _^_}
-use lib.ListN.{length, getD}
-use Rattle.hops.specs.Hops.{View}
-use Rattle.routes.specs.declared.steps.Route.{Route}
-use Rattle.routes.specs.Order.{past}
-use Rattle.routes.specs.Held.{linksIn, origin, endsOver, Turn}
-use Rattle.routes.specs.Along.{Along, along-end, along-word, along-here, along-next}
-use Rattle.search.specs.Lengths.{Single}
+use Prim.Native.Nat.{ℕ, _+_, _^_, _≤_, _<_}
+use native.Mathlib.Nat.{eq-or-lt-of-le}
+use native.Mathlib.Omega.{arith}
+use lib.ListN.{getD}
+use Rattle.hops.specs.Hops.{View, startOf, labelOf, toOf, total, Opened}
+use Rattle.classes.specs.Paths.{stepWord}
+use Rattle.search.specs.Lengths.{Unanswered, Single}
 
--- the link of a path of one link has a counterpart
-pub record Answers (v u : View) (z : List ℕ) (y : ℕ) (q : List ℕ) : Type 0 where
-  pub some : endsOver v u z (2 ^ y) q ≡ 0 → ⊥
+-- Each link before k has a counterpart.
+pub record LinksTo (v u : View) (z : List ℕ) (x y k : ℕ) : Type 0 where
+  pub each : (j : ℕ) → j < k → Unanswered v u z x y j → ⊥
 
-abbrev pub LinksAt : View → View → List ℕ → ℕ → ℕ → Route → Type 0
-LinksAt v u z x y p = Along v u z x y 1 (Answers v u z y) p
+module _ (v u : View) (z : List ℕ) (x y : ℕ) where
+  pub links-start : (k : ℕ) → k ≡ startOf v x → LinksTo v u z x y k
+  links-start k d = record { each = λ j l h. omega (arith, h .leaves .from) }
 
-module _ (v u : View) (z : List ℕ) (x y : ℕ) (p : Route) (l : LinksAt v u z x y p) where
-  pub links-end : p .some ≡ false → Single v u z x y p
-  links-end n = record {
-    found = λ s. absurd (false≢true (sym n ∙ s));
-    listed = λ s. absurd (false≢true (sym n ∙ s));
-    long = λ s. absurd (false≢true (sym n ∙ s));
-    none = λ _ q m. along-end v u z x y 1 (Answers v u z y) p l n q m .some;
-  }
+  module _ (k : ℕ) (h : LinksTo v u z x y k) where
+    pub links-end : (e : ℕ) → e ≡ startOf v (x + 1) → e ≤ k → Single v u z x y e
+    links-end e d l = record { found = λ b. absurd (omega arith); none = λ _ j n. h .each j (omega (arith, n .leaves .until)) n }
 
-  module _ (s : p .some ≡ true) where
-    pub links-words : length (p .words) ≡ 5
-    links-words = l .held s .words
+    module _ (w r : ℕ) (dw : w ≡ 2 ^ y) (dr : r ≡ stepWord u z w (labelOf v k) (toOf v k)) where
+      pub links-found : (e : ℕ) → e ≡ startOf v (x + 1) → startOf v x ≤ k → k < e → r ≡ 0 → Single v u z x y k
+      links-found e d m l q = record {
+        found = λ _. record { leaves = record { from = m; until = omega arith }; none = rw dw at (sym dr ∙ q) };
+        none = λ b. absurd (omega arith);
+      }
 
-    word-is : getD (p .words) (p .len) 0 ≡ endsOver v u z (2 ^ y) (linksIn p)
-    word-is = along-word v u z x y 1 (Answers v u z y) p l s
+      pub links-next : (r ≡ 0 → ⊥) → LinksTo v u z x y (k + 1)
+      links-next n = record {
+        each = λ j l a. ⊎-elim (λ q. n (dr ∙ rw (dw, ← q) (a .none))) (λ s. h .each j s a) (eq-or-lt-of-le (under j l));
+      }
+        where
+          under : (j : ℕ) → j < k + 1 → j ≤ k
+          under j m = omega arith
 
-    pub links-found : getD (p .words) (p .len) 0 ≡ 0 → Single v u z x y p
-    links-found q = record {
-      found = λ _. (along-here v u z x y 1 (Answers v u z y) p l s, sym word-is ∙ q);
-      listed = λ _. l .held s .listed;
-      long = λ _. l .long s;
-      none = λ n. absurd (false≢true (sym n ∙ s));
-    }
+-- where the links out of a node end
+pub until-few : (starts to : List ℕ) (x e : ℕ) → Opened starts to → x < 64 → e ≡ getD starts (x + 1) 0 → e ≤ total starts
+until-few starts to x e o l d = omega (arith, o .within (x + 1) (omega arith))
 
-    pub links-next : (getD (p .words) (p .len) 0 ≡ 0 → ⊥) → (p′ : Route) → Turn v u z (origin p) x (p .len) (past v (p .len) x (linksIn p)) p′ → LinksAt v u z x y p′
-    links-next q p′ r = along-next v u z x y 1 (Answers v u z y) p l s p′ r (record { some = λ e. q (word-is ∙ e) })
+-- a link that there is leads to a node that a word has room for
+pub link-low : (starts to : List ℕ) (k e : ℕ) → Opened starts to → e ≤ total starts → k < e → getD to k 0 < 64
+link-low starts to k e o m l = o .low k (omega arith)

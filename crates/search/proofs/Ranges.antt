@@ -6,7 +6,7 @@ use Prim.Native.Nat.{ℕ, _+_, _-_, _/_, _≤_, _<_}
 use native.Mathlib.Nat.{eq-or-lt-of-le}
 use native.Mathlib.Omega.{arith}
 use Rattle.hops.specs.Hops.{View}
-use Rattle.routes.specs.declared.pairs.Pair.{Pair}
+use Rattle.routes.specs.declared.Pair.{Pair}
 use Rattle.routes.specs.Pairs.{Asked, Sought}
 use Rattle.search.specs.Lengths.{Ready, Total, Most, Clear, Outcome, Fewest}
 
@@ -46,7 +46,7 @@ module _ (v u : View) (z ea eb : List ℕ) (x y c s : ℕ) where
       i,
       s - i,
       record { all = omega arith; order = omega arith; most = omega arith },
-      record { first = o .first n; second = o .second n; fails = o .fails n; listed = o .listed n; long = o .long n },
+      record { first = o .first n; second = o .second n; fails = o .fails n },
     );
     none = λ e. absurd (n e);
   }
@@ -79,5 +79,5 @@ module _ (v u : View) (z ea eb : List ℕ) (x y c : ℕ) where
         let (i, j, w, f) = o .found n in
         record {
           outcome = record { found = λ _. (i, j, record { order = w .order; most = w .most }, f); none = λ e. absurd (n e) };
-          fewest = λ _ k l m b. h .each k l m (omega (arith, f .long .0, f .long .1, w .all));
+          fewest = λ _ k l m b. h .each k l m (omega (arith, f .first .0 .long, f .second .0 .long, w .all));
         }

@@ -1,10 +1,10 @@
 -- From the numbered paths and the words to the theory's paths, `follow` and `met`. Assumes nothing.
 use mathlib.Core.Bool.{Bool, true, false, So, not, _&&_, false≢true}
 use mathlib.Core.Path.{_≡_, refl, sym, ap, ap₂, _∙_}
-use mathlib.Core.Logic.{_↔_, inl, inr, ⊎-elim}
-use mathlib.Core.List.{List, [], _∷_, map, List·Memᴰ, List·Memᴰ·head, List·Memᴰ·tail, List·Memᴰ·not-nil, List·Memᴰ·cases-cons}
-use Prim.Native.Nat.{ℕ, zero, suc, _+_, _-_, _^_, _≤_, _<_}
-use native.Mathlib.Nat.{eq-or-lt-of-le, lt-of-le-of-lt}
+use mathlib.Core.Logic.{_↔_}
+use mathlib.Core.List.{List, [], _∷_}
+use Prim.Native.Nat.{ℕ, suc, _^_, _<_}
+use native.Mathlib.Nat.{lt-of-le-of-lt}
 use native.Mathlib.Omega.{arith}
 use borrow.Author.Tests.{eqb-true, eq-eqb, ne-eqb}
 use lib.Bits.{bitAnd, and-le-l}
@@ -12,9 +12,9 @@ use lib.Dec.{eqb}
 use lib.ListN.{length, getD}
 use lib.Pow.{pow-lt}
 use Rattle.theory.specs.Search.{any}
-use Rattle.theory.specs.Tests.{any-ext, any-iff, and-iff, append-iff, test-eq}
+use Rattle.theory.specs.Tests.{any-ext, any-iff, and-iff, test-eq}
 use Rattle.theory.specs.Graph.{Comparison, Graph, linked}
-use Rattle.theory.specs.Path.{Hop, Path, Walk, end}
+use Rattle.theory.specs.Path.{Hop, hop, Path, Walk, end}
 use Rattle.theory.specs.Walks.{linked-inside, end-inside}
 use Rattle.theory.specs.Bisimulation.{Relation}
 use Rattle.theory.specs.Rounds.{follow, met}
@@ -23,71 +23,25 @@ use Rattle.words.specs.Words.{bit}
 use Rattle.words.specs.Laws.{bit-and, bit-pow, zero-iff}
 use Rattle.edges.specs.Edges.{meets}
 use Rattle.edges.specs.Laws.{meets-zero}
-use Rattle.hops.specs.Hops.{View, startOf, labelOf, toOf, hopAt, hopsFrom, hopsOf}
+use Rattle.hops.specs.Hops.{View, startOf, labelOf, toOf, hopAt, hopsOf}
 use Rattle.hops.specs.Sets.{among, reached, spread, imageOf, rowAt}
 use Rattle.hops.specs.Laws.{among-iff, linked-among, bit-reached, bit-spread, spread-lt}
-use Rattle.routes.specs.Order.{endOf, pathOf, onward, routesOut}
-use Rattle.routes.specs.Held.{stepWord, endsOver}
-use Rattle.routes.specs.Pairs.{wantedOf, failing, alone}
+use Rattle.classes.specs.Paths.{Leaves, Trail, endOf, pathOf, stepWord, endsOver}
+use Rattle.classes.specs.Laws.{hop-in, hop-out}
+use Rattle.routes.specs.Pairs.{failing, alone}
 use Rattle.search.specs.Reasons.{numberOf, Drawn}
 
 -- ---- numbered paths
 module _ (v : View) where
-  end-path : (x : ℕ) (w : List ℕ) → endOf (v .to) x w ≡ end x (pathOf v w)
+  end-path : (x : ℕ) (w : List ℕ) → endOf v x w ≡ end x (pathOf v w)
   unfolding endOf pathOf end
   end-path x [] = refl
   end-path x (k ∷ w) = end-path (toOf v k) w
 
-  -- the hops are those of the links
-  hop-in : (k n l : ℕ) → k ≤ l → l < k + n → List·Memᴰ (hopAt v l) (hopsFrom v k n)
-  unfolding hopsFrom
-  hop-in k zero l h m = absurd (omega arith)
-  hop-in k (suc n) l h m = ⊎-elim (λ q. List·Memᴰ·head (rw q)) (λ s. List·Memᴰ·tail (hop-in (suc k) n l s (omega arith))) (eq-or-lt-of-le h)
-
-  hop-out : (k n : ℕ) (h : Hop) → List·Memᴰ h (hopsFrom v k n) → (l : ℕ) × (k ≤ l) × (l < k + n) × (h ≡ hopAt v l)
-  unfolding hopsFrom
-  hop-out k zero h m = absurd (List·Memᴰ·not-nil m)
-  hop-out k (suc n) h m =
-      ⊎-elim (λ q. (k, omega arith, omega arith, q)) (λ r. let (l, a, b, q) = hop-out (suc k) n h r in (l, omega arith, omega arith, q))
-      (List·Memᴰ·cases-cons m)
-
-  -- the paths that go on
-  front-in : (k : ℕ) (w : List ℕ) (ws : List (List ℕ)) → List·Memᴰ w ws → List·Memᴰ (k ∷ w) (map (λ u. k ∷ u) ws)
-  front-in k w [] m = absurd (List·Memᴰ·not-nil m)
-  front-in k w (u ∷ ws) m =
-      ⊎-elim (λ q. List·Memᴰ·head (ap (λ (p : List ℕ). k ∷ p) q)) (λ r. List·Memᴰ·tail (front-in k w ws r)) (List·Memᴰ·cases-cons m)
-
-  front-out : (k : ℕ) (w : List ℕ) (ws : List (List ℕ)) → List·Memᴰ w (map (λ u. k ∷ u) ws) → (u : List ℕ) × (w ≡ k ∷ u) × List·Memᴰ u ws
-  front-out k w [] m = absurd (List·Memᴰ·not-nil m)
-  front-out k w (u ∷ ws) m =
-      ⊎-elim (λ q. (u, q, List·Memᴰ·head refl)) (λ r. let (u′, q, n) = front-out k w ws r in (u′, q, List·Memᴰ·tail n)) (List·Memᴰ·cases-cons m)
-
-  onward-in : (f : ℕ → List (List ℕ)) (k n l : ℕ) (w : List ℕ) → k ≤ l → l < k + n → List·Memᴰ w (f (toOf v l)) → List·Memᴰ (l ∷ w) (onward v f k n)
-  unfolding onward
-  onward-in f k zero l w h m e = absurd (omega arith)
-  onward-in f k (suc n) l w h m e =
-      append-iff (l ∷ w) (map (λ u. k ∷ u) (f (toOf v k))) (onward v f (k + 1) n) .1
-      (⊎-elim (λ q. inl (rw q (front-in l w (f (toOf v l)) e))) (λ s. inr (onward-in f (k + 1) n l w (omega arith) (omega arith) e)) (eq-or-lt-of-le h))
-
-  onward-out : (f : ℕ → List (List ℕ)) (k n : ℕ) (w : List ℕ) → List·Memᴰ w (onward v f k n)
-      → (l : ℕ) × (u : List ℕ) × (k ≤ l) × (l < k + n) × (w ≡ l ∷ u) × List·Memᴰ u (f (toOf v l))
-  unfolding onward
-  onward-out f k zero w m = absurd (List·Memᴰ·not-nil m)
-  onward-out f k (suc n) w m =
-      ⊎-elim
-      (λ a. let (u, q, e) = front-out k w (f (toOf v k)) a in (k, u, omega arith, omega arith, q, e))
-      (λ b. let (l, u, h, s, q, e) = onward-out f (k + 1) n w b in (l, u, omega arith, omega arith, q, e))
-      (append-iff w (map (λ u. k ∷ u) (f (toOf v k))) (onward v f (k + 1) n) .0 m)
-
-  -- a path of one link
-  pub one-out : (x : ℕ) (w : List ℕ) → List·Memᴰ w (routesOut v 1 x) → (k : ℕ) × (w ≡ k ∷ [])
-  unfolding routesOut
-  one-out x w m =
-      let (k, u, h, b, q, n) = onward-out (routesOut v 0) (startOf v x) (startOf v (x + 1) - startOf v x) w m in
-      (k, ⊎-elim (λ e. rw e at q) (λ e. absurd (List·Memᴰ·not-nil e)) (List·Memᴰ·cases-cons n))
-
-  at-node : (d : ℕ) (u : List ℕ) (y y′ : ℕ) → y ≡ y′ → List·Memᴰ u (routesOut v d y) → List·Memᴰ u (routesOut v d y′)
-  at-node d u y y′ e m = rw e at m
+  pub path-length : (p : List ℕ) → length (pathOf v p) ≡ length p
+  unfolding pathOf
+  path-length [] = refl
+  path-length (k ∷ p) = ap suc (path-length p)
 
   module _ (g : Graph) (ends : List ℕ) (s : Drawn g v ends) where
     linked-is : (x a y : ℕ) → x < 64 → linked g x a y ≡ among (hopsOf v x) a y
@@ -96,28 +50,32 @@ module _ (v : View) where
     inside : (x a y : ℕ) → x < 64 → So (among (hopsOf v x) a y) → y < 64
     inside x a y l e = let i = linked-inside (s .formed) x a y (rw (linked-is x a y l) e) in omega (arith, s .small)
 
-    -- the numbered paths of d links are the paths of d links
-    pub route-walk : (d x : ℕ) (w : List ℕ) → x < 64 → List·Memᴰ w (routesOut v d x) → Walk g x (pathOf v w) × (length (pathOf v w) ≡ d)
-    unfolding routesOut pathOf Walk
-    route-walk zero x w l m = ⊎-elim (λ q. rw q (tt, refl)) (λ n. absurd (List·Memᴰ·not-nil n)) (List·Memᴰ·cases-cons m)
-    route-walk (suc d) x w l m =
-        let (k, u, h, b, q, n) = onward-out (routesOut v d) (startOf v x) (startOf v (x + 1) - startOf v x) w m in
-        let e : So (among (hopsOf v x) (labelOf v k) (toOf v k)) =
-        among-iff (hopsOf v x) (labelOf v k) (toOf v k) .1 (hop-in (startOf v x) (startOf v (x + 1) - startOf v x) k h b) in
-        let (wu, lu) = route-walk d (toOf v k) u (inside x (labelOf v k) (toOf v k) l e) n in
-        rw q ((rw (linked-is x (labelOf v k) (toOf v k) l) e, wu), ap suc lu)
+    -- the links out of a node are its hops
+    pub leaves-linked : (x k : ℕ) → x < 64 → Leaves v x k → So (linked g x (labelOf v k) (toOf v k))
+    leaves-linked x k l o =
+        linked-is x (labelOf v k) (toOf v k) l ∙ among-iff (hopsOf v x) (labelOf v k) (toOf v k) .1 (hop-in v (startOf v x) _ k (o .from) (omega (arith, o .until)))
 
-    pub walk-route : (d x : ℕ) (p : Path) → x < 64 → Walk g x p → length p ≡ d → (w : List ℕ) × List·Memᴰ w (routesOut v d x) × (pathOf v w ≡ p)
-    unfolding routesOut pathOf Walk
-    walk-route zero x [] l k e = ([], List·Memᴰ·head refl, refl)
-    walk-route zero x (h ∷ p) l k e = absurd (omega arith)
-    walk-route (suc d) x [] l k e = absurd (omega arith)
-    walk-route (suc d) x (h ∷ p) l (k, r) e =
-        let i : So (among (hopsOf v x) (h .label) (h .to)) = rw (linked-is x (h .label) (h .to) l) at k in
-        let (m, a, b, q) = hop-out (startOf v x) (startOf v (x + 1) - startOf v x) h (among-iff (hopsOf v x) (h .label) (h .to) .0 i) in
-        let t : h .to ≡ toOf v m = cc in
-        let (u, n, o) = walk-route d (h .to) p (inside x (h .label) (h .to) l i) r (omega arith) in
-        (m ∷ u, onward-in (routesOut v d) (startOf v x) (startOf v (x + 1) - startOf v x) m u a b (at-node d u (h .to) (toOf v m) t n), (cc))
+    pub linked-leaves : (x a y : ℕ) → x < 64 → So (linked g x a y) → (k : ℕ) × Leaves v x k × (hop a y ≡ hopAt v k)
+    linked-leaves x a y l e =
+        let (k, m, b, q) = hop-out v (startOf v x) _ (hop a y) (among-iff (hopsOf v x) a y .0 (sym (linked-is x a y l) ∙ e)) in
+        (k, record { from = m; until = omega arith }, q)
+
+    -- the numbered paths are the paths
+    pub trail-walk : (x : ℕ) (w : List ℕ) → x < 64 → Trail v x w → Walk g x (pathOf v w)
+    unfolding Trail pathOf Walk
+    trail-walk x [] l t = tt
+    trail-walk x (k ∷ w) l (o, t) =
+        let e = leaves-linked x k l o in
+        (e, trail-walk (toOf v k) w (inside x (labelOf v k) (toOf v k) l (sym (linked-is x (labelOf v k) (toOf v k) l) ∙ e)) t)
+
+    pub walk-trail : (x : ℕ) (p : Path) → x < 64 → Walk g x p → (w : List ℕ) × Trail v x w × (pathOf v w ≡ p)
+    unfolding Trail pathOf Walk
+    walk-trail x [] l k = ([], tt, refl)
+    walk-trail x (h ∷ p) l (k, r) =
+        let (j, o, q) = linked-leaves x (h .label) (h .to) l k in
+        let t : h .to ≡ toOf v j = ap (λ (h : Hop). h .to) q in
+        let (u, n, e) = walk-trail (toOf v j) p (inside x (h .label) (toOf v j) l (sym (linked-is x (h .label) (toOf v j) l) ∙ rw (← t) k)) (rw t at r) in
+        (j ∷ u, (o, n), (cc))
 
 -- ---- words
 pub test-off : (b : Bool) → (So b → ⊥) → b ≡ false
@@ -250,7 +208,7 @@ module _ (v u : View) (l r : Graph) (rows ea eb : List ℕ) (dl : Drawn l v ea) 
 
   pub alone-is : (p q : List ℕ) → Walk l x (pathOf v p) → Walk l x (pathOf v q)
       → alone v u rows ea eb x y (numberOf t) p q ≡ l .ends t (end x (pathOf v p)) (end x (pathOf v q)) && not (met r (relationOf rows) y t (pathOf v p) (pathOf v q))
-  unfolding alone failing wantedOf
+  unfolding alone failing
   alone-is p q wp wq =
       ap₂ _&&_
       (ap₂ (λ (i j : ℕ). bit (rowAt ea (numberOf t) i) j) (end-path v x p) (end-path v x q)

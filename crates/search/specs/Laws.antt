@@ -13,9 +13,10 @@ use Rattle.theory.specs.Bisimulation.{Relation}
 use Rattle.theory.specs.Rounds.{zigs}
 use Rattle.theory.specs.Parting.{byLink, byPaths, Fails}
 use Rattle.hops.specs.Hops.{View, hopAt}
-use Rattle.routes.specs.Order.{pathOf}
+use Rattle.classes.specs.Paths.{pathOf}
 use Rattle.search.specs.declared.Steps.{Steps}
 use Rattle.search.specs.declared.Reason.{Reason}
+use Rattle.search.specs.Bridge.{path-length}
 use Rattle.search.specs.Reasons.{Posed, pathIn, reasonOf, Numbered, Answered}
 
 -- ---- the answer, of two graphs and a relation that the lists show
@@ -42,11 +43,6 @@ module _ (v : View) (s : Reason) where
   reason-differ e = rw e
 
 -- ---- the paths of a reason, link by link
-path-length : (v : View) (p : List ℕ) → length (pathOf v p) ≡ length p
-unfolding pathOf
-path-length v [] = refl
-path-length v (k ∷ p) = ap suc (path-length v p)
-
 path-at : (v : View) (p : List ℕ) (i : ℕ) (h : Hop) → i < length p → getD (pathOf v p) i h ≡ hopAt v (getD p i 0)
 unfolding pathOf
 path-at v [] i h l = absurd (not-suc-le-zero l)

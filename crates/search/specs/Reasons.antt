@@ -13,8 +13,8 @@ use Rattle.theory.specs.Parting.{Reason as Cause, byLink, byPaths, LinkFails, P
 use Rattle.words.specs.Words.{bit}
 use Rattle.hops.specs.Hops.{View, hopAt, hopsOf}
 use Rattle.hops.specs.Sets.{rowAt}
-use Rattle.routes.specs.declared.steps.Route.{Route}
-use Rattle.routes.specs.Order.{pathOf}
+use Rattle.classes.specs.Paths.{pathOf}
+use Rattle.routes.specs.declared.Route.{Route}
 use Rattle.search.specs.declared.Steps.{Steps}
 use Rattle.search.specs.declared.Reason.{Reason}
 

@@ -5,10 +5,8 @@ ghost use Prim.Native.Nat.{_+_, _≤_};
 ghost use Rattle.hops.specs.Hops.{viewOf};
 ghost use Rattle.search.specs.Lengths.{Ready, Outcome, Total, Fewest, Single};
 ghost use Rattle.search.specs.Reasons.{stepsOf, Answered};
-use routes::pairs;
-use routes::pairs::Pair;
-use routes::steps;
-use routes::steps::Route;
+use routes::Pair;
+use routes::Route;
 
 // A path by the numbers of its first `len` links.
 pub struct Steps {
@@ -37,10 +35,8 @@ fn no_pair() -> Pair
     ensures { λ r. ⌜ r .kind ≡ 0 ⌝ }
 {
     let w = Route {
-        some: false,
         len: 0,
         links: [0u16; 4],
-        words: [0u64; 5],
     };
     Pair {
         kind: 0,
@@ -73,7 +69,7 @@ fn by_lengths(
         i = s - c;
     }
     while i <= s / 2 {
-        let r = pairs::two_paths(sa, la, ta, ea, sb, lb, tb, eb, z, x, y, i, s - i);
+        let r = routes::two_paths(sa, la, ta, ea, sb, lb, tb, eb, z, x, y, i, s - i);
         if r.kind != 0 {
             return r;
         }
@@ -111,7 +107,7 @@ fn by_total(
     no_pair()
 }
 
-// A single link, as a path of one link: the first one from x that has no counterpart from y.
+// The first link out of x that has no counterpart from y, or where the links out of x end.
 fn one_link(
     sa: &[u16; 65],
     la: &[u16; 512],
@@ -122,25 +118,20 @@ fn one_link(
     z: &[u64; 64],
     x: u8,
     y: u8,
-) -> Route
+) -> u16
     requires { ⌜ Ready (now sa) (now ta) (now sb) (now tb) x y ⌝ }
     ensures { λ r. ⌜ Single (viewOf (now (sa .entry)) (now (la .entry)) (now (ta .entry))) (viewOf (now (sb .entry)) (now (lb .entry)) (now (tb .entry))) (now (z .entry)) x y r ⌝ }
 {
-    let mut links = [0u16; 4];
-    let mut words = [0u64; 5];
-    let mut some = steps::first_route(sa, la, ta, sb, lb, tb, z, x, y, &mut links, &mut words, 1);
-    while some {
-        if words[1] == 0 {
-            break;
+    let partner = words::only(y);
+    let until = sa[x as usize + 1];
+    let mut k = sa[x as usize];
+    while k < until {
+        if classes::step(sb, lb, tb, z, partner, la[k as usize], ta[k as usize]) == 0 {
+            return k;
         }
-        some = steps::next_route(sa, la, ta, sb, lb, tb, z, x, &mut links, &mut words, 1);
+        k += 1;
     }
-    Route {
-        some,
-        len: 1,
-        links,
-        words,
-    }
+    until
 }
 
 // The reason to part x and y, from x's side, under the relation z: row i of z has the cells related to cell i. First a link without
@@ -163,10 +154,13 @@ pub fn reason_for(
     ensures { λ r. ⌜ Answered (viewOf (now (sa .entry)) (now (la .entry)) (now (ta .entry))) (viewOf (now (sb .entry)) (now (lb .entry)) (now (tb .entry))) (now (z .entry)) (now (ea .entry)) (now (eb .entry)) x y c r ⌝ }
 {
     let link = one_link(sa, la, ta, sb, lb, tb, z, x, y);
-    if link.some {
+    if link < sa[x as usize + 1] {
         return Reason {
             kind: 4,
-            first: steps_of(link),
+            first: Steps {
+                len: 1,
+                links: [link, 0, 0, 0],
+            },
             second: Steps {
                 len: 0,
                 links: [0u16; 4],

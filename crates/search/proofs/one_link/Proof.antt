@@ -1,44 +1,72 @@
--- `search::one_link` meets its contract. The invariant: each link passed has a counterpart. Assumes nothing.
-use native.Mathlib.Omega.{arith}
-use borrow.Author.Needs.{needs}
-use lib.ListN.{length}
-use Rattle.hops.specs.Hops.{viewOf}
-use Rattle.routes.specs.Held.{routeOf, onFrom}
-use Rattle.routes.specs.Along.{along-start, along-held, along-less}
+use mathlib.Core.Path.{_≡_}
+use Prim.Native.Nat.{_+_, _-_, _^_, _≤_}
+use lib.ListN.{getD}
+use Rattle.hops.specs.Hops.{viewOf, total}
 use Rattle.search.specs.Lengths.{Ready}
-use Rattle.search.proofs.Links.{LinksAt, links-end, links-words, links-found, links-next}
+use Rattle.search.proofs.Links.{LinksTo, links-start, links-next, links-found, links-end, until-few, link-low}
+use borrow.Author.Needs.{needs}
 use Rattle.search.proofs.one_link.Statement.{statement}
 use Rattle.search.proofs.one_link.Tie as tie
 
 abbrev Inv-loop : tie.InvT-loop
-Inv-loop sa la ta sb lb tb z x y links₀ words₀ some₀ links words some = Ready sa ta sb tb x y × LinksAt (viewOf sa la ta) (viewOf sb lb tb) z x y (routeOf some 1 links words)
+Inv-loop sa la ta sb lb tb z x y partner until k₀ k = Ready sa ta sb tb x y × (partner ≡ 2 ^ y) × (until ≡ getD sa (x + 1) 0) × (until ≤ total sa) × (total sa ≤ 512) × (getD sa x 0 ≤ k) × LinksTo (viewOf sa la ta) (viewOf sb lb tb) z x y k
 
 abbrev μ-loop : tie.MeasureT-loop
-μ-loop sa la ta sb lb tb z x y links₀ words₀ some₀ links words some = length (onFrom (viewOf sa la ta) 1 x (routeOf some 1 links words))
+μ-loop sa la ta sb lb tb z x y partner until k₀ k = until - k
 
-first-route-requires : tie.Need-first-route-requires Inv-loop μ-loop
-first-route-requires c κs = (search needs, search needs, search needs, search needs, omega arith, search needs, search needs)
+only-requires : tie.Need-only-requires Inv-loop μ-loop
+only-requires c κs = search needs
+
+add-until : tie.Need-add-until Inv-loop μ-loop
+add-until c = search needs
+
+mul-until : tie.Need-mul-until Inv-loop μ-loop
+mul-until c = search needs
+
+element-copy-out-until : tie.Need-element-copy-out-until Inv-loop μ-loop
+element-copy-out-until c = search needs
+
+mul-k : tie.Need-mul-k Inv-loop μ-loop
+mul-k c = search needs
+
+element-copy-out-k : tie.Need-element-copy-out-k Inv-loop μ-loop
+element-copy-out-k c = search needs
 
 loop-holds : tie.Need-loop-holds Inv-loop μ-loop
-loop-holds c = (search needs, search along-start)
+loop-holds c = (search needs, search needs, search needs, search until-few, search needs, search needs, search links-start)
 
-array-read-if1 : tie.Need-array-read-if1 Inv-loop μ-loop
-array-read-if1 c = omega (arith, links-words _ _ _ _ _ _ (c .before .loop .inv .1) (c .loop-test .taken))
+cast-step : tie.Need-cast-step Inv-loop μ-loop
+cast-step c = search needs
 
-next-route-requires : tie.Need-next-route-requires Inv-loop μ-loop
-next-route-requires c κs = (search needs, search needs, search needs, along-held _ _ _ _ _ _ _ _ (c .before .before .before .before .loop .inv .1) (c .before .before .before .loop-test .taken))
+mul-step : tie.Need-mul-step Inv-loop μ-loop
+mul-step c = search needs
 
-loop-less : tie.Need-loop-less Inv-loop μ-loop
-loop-less c = along-less _ _ _ _ _ _ _ _ (c .before .before .before .before .before .loop .inv .1) (c .before .before .before .before .loop-test .taken) _ (c .next-route .ensures)
+element-copy-out-step : tie.Need-element-copy-out-step Inv-loop μ-loop
+element-copy-out-step c = search needs
 
-loop-again : tie.Need-loop-again Inv-loop μ-loop
-loop-again c = (search needs, links-next _ _ _ _ _ _ (c .before .before .before .before .before .loop .inv .1) (c .before .before .before .before .loop-test .taken) (c .before .before .before .if1 .left) _ (c .next-route .ensures))
+cast-step-2 : tie.Need-cast-step-2 Inv-loop μ-loop
+cast-step-2 c = search needs
+
+element-copy-out-step-2 : tie.Need-element-copy-out-step-2 Inv-loop μ-loop
+element-copy-out-step-2 c = search needs
+
+step-requires : tie.Need-step-requires Inv-loop μ-loop
+step-requires c κs = (search needs, link-low _ _ _ _ (c .before .before .before .loop .inv .0 .left) (c .before .before .before .loop .inv .3) (c .before .before .loop-test .taken))
 
 returns : tie.Need-returns Inv-loop μ-loop
-returns c = search links-end
+returns c = links-found _ _ _ _ _ _ (c .before .before .before .before .before .loop .inv .6) _ _ (c .before .before .before .before .before .loop .inv .1) (c .before .step .ensures) _ (c .before .before .before .before .before .loop .inv .2) (c .before .before .before .before .before .loop .inv .5) (c .before .before .before .before .loop-test .taken) (c .if1 .taken)
+
+add-k : tie.Need-add-k Inv-loop μ-loop
+add-k c = search needs
+
+loop-less : tie.Need-loop-less Inv-loop μ-loop
+loop-less c = search needs
+
+loop-again : tie.Need-loop-again Inv-loop μ-loop
+loop-again c = (search needs, search needs, search needs, search needs, search needs, search needs, links-next _ _ _ _ _ _ (c .before .before .before .before .before .loop .inv .6) _ _ (c .before .before .before .before .before .loop .inv .1) (c .before .step .ensures) (c .if1 .left))
 
 returns-2 : tie.Need-returns-2 Inv-loop μ-loop
-returns-2 c = search links-found
+returns-2 c = search links-end
 
 pub one-link-spec : {M : Type 1} → statement M
 one-link-spec =
@@ -46,11 +74,21 @@ one-link-spec =
     (tie.spec
     Inv-loop
     μ-loop
-    first-route-requires
+    only-requires
+    add-until
+    mul-until
+    element-copy-out-until
+    mul-k
+    element-copy-out-k
     loop-holds
-    array-read-if1
-    next-route-requires
+    cast-step
+    mul-step
+    element-copy-out-step
+    cast-step-2
+    element-copy-out-step-2
+    step-requires
+    returns
+    add-k
     loop-less
     loop-again
-    returns
     returns-2)

@@ -1,38 +1,46 @@
--- `search::reason_for` meets its contract. Assumes nothing.
-use borrow.Author.Needs.{needs}
+use mathlib.Core.Path.{refl}
 use Rattle.search.proofs.Answers.{why-link, why-two}
+use borrow.Author.Needs.{needs}
 use Rattle.search.proofs.reason_for.Statement.{statement}
 use Rattle.search.proofs.reason_for.Tie as tie
 
 one-link-requires : tie.Need-one-link-requires
 one-link-requires c κs = search needs
 
-steps-of-requires : tie.Need-steps-of-requires
-steps-of-requires c κs = search needs
+add-if1 : tie.Need-add-if1
+add-if1 c = search needs
+
+mul-if1 : tie.Need-mul-if1
+mul-if1 c = search needs
+
+element-copy-out-if1 : tie.Need-element-copy-out-if1
+element-copy-out-if1 c = search needs
 
 returns : tie.Need-returns
-returns c = search why-link
+returns c = why-link _ _ _ _ _ _ _ _ (c .before .before .before .pre .0 .left) (c .before .before .before .pre .0 .cell) _ (c .before .before .one-link .ensures) (c .if1 .taken) _ refl refl refl
 
 by-total-requires : tie.Need-by-total-requires
 by-total-requires c κs = search needs
 
+steps-of-requires : tie.Need-steps-of-requires
+steps-of-requires c κs = search needs
+
 steps-of-requires-2 : tie.Need-steps-of-requires-2
 steps-of-requires-2 c κs = search needs
 
-steps-of-requires-3 : tie.Need-steps-of-requires-3
-steps-of-requires-3 c κs = search needs
-
 returns-2 : tie.Need-returns-2
-returns-2 c = search why-two
+returns-2 c = why-two _ _ _ _ _ _ _ _ (c .before .before .before .before .before .before .before .before .pre .0 .left) (c .before .before .before .before .before .before .before .before .pre .0 .cell) _ (c .before .before .before .before .before .before .before .one-link .ensures) (c .before .before .before .before .before .if1 .left) (c .before .before .before .before .before .before .before .before .pre .1) _ (c .before .before .before .before .by-total .ensures) _ refl (c .before .steps-of .ensures) (c .steps-of2 .ensures)
 
 pub reason-for-spec : {M : Type 1} → statement M
 reason-for-spec =
     tie.close
     (tie.spec
     one-link-requires
-    steps-of-requires
+    add-if1
+    mul-if1
+    element-copy-out-if1
     returns
     by-total-requires
+    steps-of-requires
     steps-of-requires-2
-    steps-of-requires-3
     returns-2)

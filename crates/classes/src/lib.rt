@@ -1,0 +1,386 @@
+// Paths from a cell of one book, each with the paths of the other book that are alike to it, taken together in classes. A table of n classes
+// is two lists: lefts[e] has the cells where the paths of class e end, rights[e] the ends of the paths of the other book alike to each of them.
+ghost use mathlib.Core.Path.{_≡_};
+ghost use Prim.Native.Nat.{_*_, _≤_, _<_};
+ghost use lib.ListN.{length, getD};
+ghost use Rattle.hops.specs.Hops.{viewOf, total, Opened};
+ghost use Rattle.classes.specs.Paths.{stepWord};
+ghost use Rattle.classes.specs.Tables.{Beyond, Room, Placed, Added, Grew, Named, Unites, Rowed, Stretched, Filled, leading, Joins, Comes};
+
+// The cells that a link with the label leads to from a cell of w, of those related to y.
+pub fn step(
+    starts: &[u16; 65],
+    labels: &[u16; 512],
+    to: &[u8; 512],
+    z: &[u64; 64],
+    w: u64,
+    label: u16,
+    y: u8,
+) -> u64
+    requires { ⌜ Opened (now starts) (now to) × (y < 64) ⌝ }
+    ensures { λ r. ⌜ r ≡ stepWord (viewOf (now (starts .entry)) (now (labels .entry)) (now (to .entry))) (now (z .entry)) w label y ⌝ }
+{
+    let next = hops::image(starts, labels, to, w, label);
+    words::meet(next, z[y as usize])
+}
+
+// One of n classes with the set w, or n. It looks at place `near` first.
+fn place(rights: &[u64; 128], n: usize, near: usize, w: u64) -> usize
+    requires { ⌜ n ≤ 128 ⌝ }
+    ensures { λ r. ⌜ Placed (now (rights .entry)) n w r ⌝ }
+{
+    if near < n {
+        if rights[near] == w {
+            return near;
+        }
+    }
+    let mut e = 0;
+    while e < n {
+        if rights[e] == w {
+            return e;
+        }
+        e += 1;
+    }
+    e
+}
+
+// How many classes a table has, and the place of the one that a tip was put into.
+pub struct Spot {
+    pub count: usize,
+    pub place: usize,
+}
+
+// Puts the tip (x, w) into a table of n classes that has room.
+fn put(
+    lefts: &mut [u64; 128],
+    rights: &mut [u64; 128],
+    n: usize,
+    near: usize,
+    x: u8,
+    w: u64,
+) -> Spot
+    requires { ⌜ Room (now lefts) (now rights) n × (n < 128) × (x < 64) ⌝ }
+    ensures { λ r. ⌜ Added (now (lefts .entry)) (now (rights .entry)) n x w (now (lefts .exit)) (now (rights .exit)) (r .count) ⌝ }
+{
+    let e = place(rights, n, near, w);
+    if e < n {
+        lefts[e] = words::with(lefts[e], x);
+        return Spot { count: n, place: e };
+    }
+    lefts[n] = words::only(x);
+    rights[n] = w;
+    Spot {
+        count: n + 1,
+        place: n,
+    }
+}
+
+// How many classes a table has, and whether it was too full for what was put into it.
+pub struct Grown {
+    pub count: usize,
+    pub full: bool,
+}
+
+// Puts the tips (y, s cut with row y of z) of the cells y of a set into a table, as long as there is room.
+fn grow(
+    z: &[u64; 64],
+    lefts: &mut [u64; 128],
+    rights: &mut [u64; 128],
+    n: usize,
+    cells: u64,
+    s: u64,
+) -> Grown
+    requires { ⌜ Room (now lefts) (now rights) n ⌝ }
+    ensures { λ r. ⌜ Grew (now (z .entry)) (now (lefts .entry)) (now (rights .entry)) n cells s (now (lefts .exit)) (now (rights .exit)) r ⌝ }
+{
+    let mut count = n;
+    let mut near = 0;
+    let mut left = cells;
+    while left != 0 {
+        if count == 128 {
+            return Grown { count, full: true };
+        }
+        let y = words::lowest(left);
+        let o = words::meet(s, z[y as usize]);
+        let p = put(lefts, rights, count, near, y, o);
+        count = p.count;
+        near = p.place;
+        left = words::without(left, y);
+    }
+    Grown { count, full: false }
+}
+
+// The labels of a book's links, each once.
+pub struct Labels {
+    pub count: usize,
+    pub list: [u16; 512],
+}
+
+// The first of n labels that is `label`, or n.
+fn label_place(list: &[u16; 512], n: usize, label: u16) -> usize
+    requires { ⌜ n ≤ 512 ⌝ }
+    ensures { λ r. ⌜ Placed (now (list .entry)) n label r ⌝ }
+{
+    let mut i = 0;
+    while i < n {
+        if list[i] == label {
+            return i;
+        }
+        i += 1;
+    }
+    i
+}
+
+// The labels of a book's links.
+pub fn labels_of(starts: &[u16; 65], labels: &[u16; 512]) -> Labels
+    requires { ⌜ total (now starts) ≤ 512 ⌝ }
+    ensures { λ r. ⌜ Named (now (starts .entry)) (now (labels .entry)) (r .list) (r .count) ⌝ }
+{
+    let links = starts[64] as usize;
+    let mut list = [0u16; 512];
+    let mut count = 0;
+    let mut k = 0;
+    while k < links {
+        let label = labels[k];
+        k += 1;
+        if label_place(&list, count, label) == count {
+            list[count] = label;
+            count += 1;
+        }
+    }
+    Labels { count, list }
+}
+
+// The union of the first n of the sets.
+fn union_of(sets: &[u64; 128], n: usize) -> u64
+    requires { ⌜ n ≤ 128 ⌝ }
+    ensures { λ r. ⌜ Unites (now (sets .entry)) n r ⌝ }
+{
+    let mut out = 0u64;
+    let mut e = 0;
+    while e < n {
+        out = words::union(out, sets[e]);
+        e += 1;
+    }
+    out
+}
+
+// Puts the row of each of the cells into a table of rows, from `base` on: the cells that a link with the label leads to from it.
+fn put_rows(
+    starts: &[u16; 65],
+    labels: &[u16; 512],
+    to: &[u8; 512],
+    cells: u64,
+    label: u16,
+    base: usize,
+    rows: &mut [u64; 128],
+)
+    requires { ⌜ Opened (now starts) (now to) × (base ≤ 64) × (length (now rows) ≡ 128) ⌝ }
+    ensures { λ _. ⌜ Rowed (viewOf (now (starts .entry)) (now (labels .entry)) (now (to .entry))) cells label base (now (rows .entry)) (now (rows .exit)) ⌝ }
+{
+    let mut left = cells;
+    while left != 0 {
+        let x = words::lowest(left);
+        rows[base + x as usize] = hops::targets(starts, labels, to, x, label);
+        left = words::without(left, x);
+    }
+}
+
+// How many classes a table has after some classes of another were gone through for one label, up to which, and whether it was too full for
+// the next.
+pub struct Stretch {
+    pub count: usize,
+    pub upto: usize,
+    pub full: bool,
+}
+
+// Puts the tips one link beyond the classes from `from` on, by one label, into a table of `count` classes, as long as there is room. `rows` has
+// the rows of the label, of the one book at 0 and of the other at 64.
+fn fill_label(
+    z: &[u64; 64],
+    rows: &[u64; 128],
+    lefts: &[u64; 128],
+    rights: &[u64; 128],
+    n: usize,
+    from: usize,
+    ends: &mut [u64; 128],
+    sets: &mut [u64; 128],
+    count: usize,
+) -> Stretch
+    requires { ⌜ Room (now ends) (now sets) count × (n ≤ 128) ⌝ }
+    ensures { λ r. ⌜ Stretched (now (z .entry)) (now (rows .entry)) (now (lefts .entry)) (now (rights .entry)) n from (now (ends .entry)) (now (sets .entry)) count (now (ends .exit)) (now (sets .exit)) r ⌝ }
+{
+    let mut total = count;
+    let mut e = from;
+    while e < n {
+        let cells = hops::passing(rows, 0, lefts[e]);
+        let s = hops::passing(rows, 1, rights[e]);
+        let g = grow(z, ends, sets, total, cells, s);
+        total = g.count;
+        if g.full {
+            return Stretch {
+                count: total,
+                upto: e,
+                full: true,
+            };
+        }
+        e += 1;
+    }
+    Stretch {
+        count: total,
+        upto: e,
+        full: false,
+    }
+}
+
+// The tips one link beyond some of a table's classes, as a table of `count` classes, and the place where to go on.
+pub struct Part {
+    pub count: usize,
+    pub next: usize,
+}
+
+// Fills a table with the tips one link beyond those of another, from the place `at` on, until it is full or all are in it. The place of label
+// number i and class e is 128 × i + e.
+pub fn fill(
+    sa: &[u16; 65],
+    la: &[u16; 512],
+    ta: &[u8; 512],
+    sb: &[u16; 65],
+    lb: &[u16; 512],
+    tb: &[u8; 512],
+    z: &[u64; 64],
+    labels: &[u16; 512],
+    many: usize,
+    lefts: &[u64; 128],
+    rights: &[u64; 128],
+    n: usize,
+    at: usize,
+    ends: &mut [u64; 128],
+    sets: &mut [u64; 128],
+) -> Part
+    requires { ⌜ Opened (now sa) (now ta) × Opened (now sb) (now tb) × (many ≤ 512) × (n ≤ 128) × (at ≤ 128 * many) × Room (now ends) (now sets) 0 ⌝ }
+    ensures { λ r. ⌜ Filled (viewOf (now (sa .entry)) (now (la .entry)) (now (ta .entry))) (viewOf (now (sb .entry)) (now (lb .entry)) (now (tb .entry))) (now (z .entry)) (now (labels .entry)) many (now (lefts .entry)) (now (rights .entry)) n at (now (ends .exit)) (now (sets .exit)) r ⌝ }
+{
+    let here = union_of(lefts, n);
+    let there = union_of(rights, n);
+    let mut rows = [0u64; 128];
+    let mut count = 0;
+    let mut i = at / 128;
+    let mut from = at % 128;
+    while i < many {
+        put_rows(sa, la, ta, here, labels[i], 0, &mut rows);
+        put_rows(sb, lb, tb, there, labels[i], 64, &mut rows);
+        let p = fill_label(z, &rows, lefts, rights, n, from, ends, sets, count);
+        count = p.count;
+        if p.full {
+            return Part {
+                count,
+                next: 128 * i + p.upto,
+            };
+        }
+        from = 0;
+        i += 1;
+    }
+    Part {
+        count,
+        next: 128 * many,
+    }
+}
+
+// Whether link k leads from a tip with the set w to the tip (y, o).
+fn leads(
+    la: &[u16; 512],
+    ta: &[u8; 512],
+    sb: &[u16; 65],
+    lb: &[u16; 512],
+    tb: &[u8; 512],
+    z: &[u64; 64],
+    w: u64,
+    k: u16,
+    y: u8,
+    o: u64,
+) -> bool
+    requires { ⌜ Opened (now sb) (now tb) × (k < 512) × (y < 64) ⌝ }
+    ensures { λ r. ⌜ r ≡ leading (viewOf (now (sb .entry)) (now (lb .entry)) (now (tb .entry))) (now (z .entry)) w (getD (now (la .entry)) k 0) (getD (now (ta .entry)) k 0) y o ⌝ }
+{
+    if ta[k as usize] == y {
+        return step(sb, lb, tb, z, w, la[k as usize], y) == o;
+    }
+    false
+}
+
+// The first link that leads from the tip (x, w) to the tip (y, o), or where the links out of x end.
+fn link_into(
+    sa: &[u16; 65],
+    la: &[u16; 512],
+    ta: &[u8; 512],
+    sb: &[u16; 65],
+    lb: &[u16; 512],
+    tb: &[u8; 512],
+    z: &[u64; 64],
+    x: u8,
+    w: u64,
+    y: u8,
+    o: u64,
+) -> u16
+    requires { ⌜ Opened (now sa) (now ta) × Opened (now sb) (now tb) × (x < 64) × (y < 64) ⌝ }
+    ensures { λ r. ⌜ Joins (viewOf (now (sa .entry)) (now (la .entry)) (now (ta .entry))) (viewOf (now (sb .entry)) (now (lb .entry)) (now (tb .entry))) (now (z .entry)) x w y o r ⌝ }
+{
+    let until = sa[x as usize + 1];
+    let mut k = sa[x as usize];
+    while k < until {
+        if leads(la, ta, sb, lb, tb, z, w, k, y, o) {
+            return k;
+        }
+        k += 1;
+    }
+    until
+}
+
+// A tip of a table, and a link that leads on from it.
+pub struct Origin {
+    pub cell: u8,
+    pub word: u64,
+    pub link: u16,
+}
+
+// The tip of a table and the link that lead to the tip (y, o).
+pub fn back(
+    sa: &[u16; 65],
+    la: &[u16; 512],
+    ta: &[u8; 512],
+    sb: &[u16; 65],
+    lb: &[u16; 512],
+    tb: &[u8; 512],
+    z: &[u64; 64],
+    lefts: &[u64; 128],
+    rights: &[u64; 128],
+    n: usize,
+    y: u8,
+    o: u64,
+) -> Origin
+    requires { ⌜ Opened (now sa) (now ta) × Opened (now sb) (now tb) × (n ≤ 128) × (y < 64) × Beyond (viewOf (now sa) (now la) (now ta)) (viewOf (now sb) (now lb) (now tb)) (now z) (now lefts) (now rights) n y o ⌝ }
+    ensures { λ r. ⌜ Comes (viewOf (now (sa .entry)) (now (la .entry)) (now (ta .entry))) (viewOf (now (sb .entry)) (now (lb .entry)) (now (tb .entry))) (now (z .entry)) (now (lefts .entry)) (now (rights .entry)) n y o r ⌝ }
+{
+    let mut at = 0;
+    while at < 64 * n {
+        let e = at / 64;
+        let x = (at % 64) as u8;
+        at += 1;
+        if words::has(lefts[e], x) {
+            let link = link_into(sa, la, ta, sb, lb, tb, z, x, rights[e], y, o);
+            if link < sa[x as usize + 1] {
+                return Origin {
+                    cell: x,
+                    word: rights[e],
+                    link,
+                };
+            }
+        }
+    }
+    Origin {
+        cell: 0,
+        word: 0,
+        link: 0,
+    }
+}

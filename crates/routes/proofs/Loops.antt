@@ -1,0 +1,242 @@
+-- The loops over the parts one link beyond a table: what each turn and each way out shows. Assumes nothing.
+use mathlib.Core.Path.{_≡_, refl, sym, ap, _∙_}
+use mathlib.Core.Logic.{⊎-elim}
+use mathlib.Core.List.{List, [], _∷_}
+use Prim.Native.Nat.{ℕ, _-_, _*_, _^_, _≤_, _<_}
+use native.Mathlib.Nat.{pos-of-ne-zero}
+use native.Mathlib.Omega.{arith}
+use borrow.Author.Tests.{eqb-true, eq-eqb}
+use lib.ListN.{length, getD, set}
+use lib.Seq.{getD-set-same}
+use Rattle.theory.specs.Tests.{le-or-lt}
+use Rattle.words.specs.Words.{bit}
+use Rattle.words.specs.Laws.{bit-pow}
+use Rattle.hops.specs.Hops.{View, labelOf, toOf, Opened}
+use Rattle.classes.specs.declared.Part.{Part}
+use Rattle.classes.specs.declared.Origin.{Origin}
+use Rattle.classes.specs.Paths.{Trail, endOf, stepWord, endsOver}
+use Rattle.classes.specs.Tables.{Has, Beyond, Named, Moves, slot, Filled, Comes}
+use Rattle.classes.specs.Laws.{leaves-below}
+use Rattle.routes.specs.declared.Route.{Route}
+use Rattle.routes.specs.declared.Tail.{Tail}
+use Rattle.routes.specs.declared.Found.{Found}
+use Rattle.routes.specs.declared.Pair.{Pair}
+use Rattle.routes.specs.Pairs.{fault, alone, failure, linksIn, Shaped, Sought}
+use Rattle.routes.specs.Tails.{Prepended, Standing, Met, Runs, Tailed, between, Searched}
+
+-- P holds of the tip of every path of d links from a tip of the table.
+pub record Clears (v u : View) (z ls rs : List ℕ) (n d : ℕ) (P : ℕ → ℕ → Type 0) : Type 0 where
+  pub each : (x w : ℕ) (s : List ℕ) → Runs v ls rs n d x w s → P (endOf v x s) (endsOver v u z w s)
+
+-- P holds of the tip of every path of d + 1 links whose first is by a class and a label before a place.
+pub record Below (v u : View) (z labels : List ℕ) (many : ℕ) (ls rs : List ℕ) (n at d : ℕ) (P : ℕ → ℕ → Type 0) : Type 0 where
+  pub each : (e i x k : ℕ) (s : List ℕ) → Moves v labels many ls n e i x k → slot e i < at → Trail v (toOf v k) s → length s ≡ d
+      → P (endOf v (toOf v k) s) (endsOver v u z (stepWord u z (getD rs e 0) (labelOf v k) (toOf v k)) s)
+
+module _ (v u : View) (z labels : List ℕ) (many : ℕ) (ls rs : List ℕ) (n d : ℕ) (P : ℕ → ℕ → Type 0) where
+  below-start : Below v u z labels many ls rs n 0 d P
+  below-start = record { each = λ e i x k s m l. absurd (omega arith) }
+
+  module _ (at : ℕ) (b : Below v u z labels many ls rs n at d P) where
+    below-next : (ls′ rs′ : List ℕ) (p : Part) → Filled v u z labels many ls rs n at ls′ rs′ p → Clears v u z ls′ rs′ (p .count) d P
+        → Below v u z labels many ls rs n (p .next) d P
+    below-next ls′ rs′ p f c = record {
+      each = λ e i x k s m l t h. ⊎-elim
+          (λ o. c .each _ _ s (record { has = f .whole e i x k m o l; trail = t; long = h }))
+          (λ o. b .each e i x k s m o t h)
+          (le-or-lt at (slot e i));
+    }
+
+    below-end : Opened (v .starts) (v .to) → Named (v .starts) (v .labels) labels many → n ≤ 128 → 128 * many ≤ at
+        → (rest : ℕ) → rest - 1 ≡ d → (rest ≡ 0 → ⊥) → Clears v u z ls rs n rest P
+    unfolding Trail endOf endsOver
+    below-end o names few l rest e pos = record { each = λ x w s h. go x w s (h .has) (h .trail) (h .long) }
+      where
+        go : (x w : ℕ) (s : List ℕ) → Has ls rs n x w → Trail v x s → length s ≡ rest → P (endOf v x s) (endsOver v u z w s)
+        go x w [] h t q = absurd (pos (sym q))
+        go x w (k ∷ s) h (t, r) q =
+            let (i, a, c) = names .each k (leaves-below v o x k (h .cell) t) in
+            let m : Moves v labels many ls n (h .class) i x k = record { class = h .below; label = a; cell = h .cell; inside = h .inside; leaves = t; named = sym c } in
+            rw (← h .word) (b .each (h .class) i x k s m (omega (arith, h .below)) r (omega arith))
+
+-- ---- a path from a part
+module _ (v u : View) (z labels : List ℕ) (many : ℕ) (ls rs : List ℕ) (n at : ℕ) (ls′ rs′ : List ℕ) (p : Part) (f : Filled v u z labels many ls rs n at ls′ rs′ p)
+    (rest : ℕ) (t : Tail) (h : Tailed v ls′ rs′ (p .count) (rest - 1) t) where
+  pub tail-low : t .cell < 64
+  tail-low = h .runs .has .cell
+
+  pub tail-beyond : Beyond v u z ls rs n (t .cell) (t .word)
+  tail-beyond = f .sound _ _ (h .runs .has)
+
+  pub tail-short : rest ≤ 4 → (rest ≡ 0 → ⊥) → t .path .len < 4
+  tail-short l pos = omega (arith, h .shaped .long, pos-of-ne-zero pos)
+
+-- ---- a path with a link before it is one from the table, and has the same tip
+record Grown (v u : View) (z ls rs : List ℕ) (n d : ℕ) (t r : Tail) : Type 0 where
+  tailed : Tailed v ls rs n d r
+  end : endOf v (r .cell) (linksIn (r .path)) ≡ endOf v (t .cell) (linksIn (t .path))
+  word : endsOver v u z (r .word) (linksIn (r .path)) ≡ endsOver v u z (t .word) (linksIn (t .path))
+
+prepended : (v u : View) (z ls′ rs′ : List ℕ) (n′ : ℕ) (ls rs : List ℕ) (n rest : ℕ) → (rest ≡ 0 → ⊥) → (t : Tail) → Tailed v ls′ rs′ n′ (rest - 1) t
+    → (s : Origin) → Comes v u z ls rs n (t .cell) (t .word) s → (r : Tail) → Prepended s t r → Grown v u z ls rs n rest t r
+unfolding Trail endOf endsOver
+prepended v u z ls′ rs′ n′ ls rs n rest pos t g s c r b = record {
+  tailed = record {
+    shaped = record { long = omega (arith, b .long, g .shaped .long, pos-of-ne-zero pos); room = b .room };
+    runs = rw (b .cell, b .word, links) (record {
+      has = c .has;
+      trail = (c .leads .leaves, rw (c .leads .to) (g .runs .trail));
+      long = omega (arith, g .runs .long, pos-of-ne-zero pos);
+    });
+  };
+  end = rw (b .cell, links) (ap (λ (x : ℕ). endOf v x (linksIn (t .path))) (c .leads .to));
+  word = rw (b .word, links)
+      (ap (λ (y : ℕ). endsOver v u z (stepWord u z (s .word) (labelOf v (s .link)) y) (linksIn (t .path))) (c .leads .to)
+      ∙ ap (λ (w : ℕ). endsOver v u z w (linksIn (t .path))) (c .leads .word));
+}
+  where
+    links : linksIn (r .path) ≡ s .link ∷ linksIn (t .path)
+    links = b .path (g .shaped .room)
+
+-- ---- two paths
+module _ (v u : View) (z ea eb pl pr : List ℕ) (pn : ℕ) (ql qr : List ℕ) (qn : ℕ) where
+  -- paths without links are tips
+  pub tips-searched : (f : Found) → Met ea eb pl pr pn ql qr qn f → (rest : ℕ) → rest ≡ 0 → Searched v u z ea eb pl pr pn ql qr qn 0 rest f
+  unfolding endOf endsOver Trail
+  tips-searched f m rest d = rw d (record {
+    first = λ n. standing pl pr pn (f .first) (m .first n);
+    second = λ n. standing ql qr qn (f .second) (m .second n);
+    fails = λ n. rw (none-in (f .first .path) (m .first n .stays), none-in (f .second .path) (m .second n .stays)) (m .fails n);
+    none = λ e x w p y o q a b. rw (empty p (a .long), empty q (b .long)) (m .none e x w y o (a .has) (b .has));
+  })
+    where
+      none-in : (r : Route) → Shaped 0 r → linksIn r ≡ []
+      none-in r h = rw (h .long)
+
+      empty : (p : List ℕ) → length p ≡ 0 → p ≡ []
+      empty [] e = refl
+      empty (k ∷ p) e = absurd (omega arith)
+
+      standing : (ls rs : List ℕ) (n : ℕ) (t : Tail) → Standing ls rs n t → Tailed v ls rs n 0 t
+      standing ls rs n t h = record { shaped = h .stays; runs = rw (none-in (t .path) (h .stays)) (record { has = h .has; trail = tt; long = refl }) }
+
+  -- a tip fails with no first path of i links; with no second path of j links
+  abbrev pub NoFirst : ℕ → ℕ → ℕ → Type 0
+  NoFirst i y o = (x w : ℕ) (p : List ℕ) → Runs v pl pr pn i x w p → fault ea eb (endOf v x p) (endsOver v u z w p) y o ≡ 0
+
+  abbrev pub NoSecond : ℕ → ℕ → ℕ → Type 0
+  NoSecond j x w = (y o : ℕ) (q : List ℕ) → Runs v ql qr qn j y o q → fault ea eb x w (endOf v y q) (endsOver v u z o q) ≡ 0
+
+  module _ (i j : ℕ) (f : Found) (e : f .kind ≡ 0) where
+    nothing-found : ((x w : ℕ) (p : List ℕ) (y o : ℕ) (q : List ℕ) → Runs v pl pr pn i x w p → Runs v ql qr qn j y o q → between v u z ea eb x w p y o q ≡ 0)
+        → Searched v u z ea eb pl pr pn ql qr qn i j f
+    nothing-found h = record { first = λ n. absurd (n e); second = λ n. absurd (n e); fails = λ n. absurd (n e); none = λ _. h }
+
+    second-cleared : Clears v u z ql qr qn j (NoFirst i) → Searched v u z ea eb pl pr pn ql qr qn i j f
+    second-cleared c = nothing-found (λ x w p y o q a b. c .each y o q b x w p a)
+
+    first-cleared : Clears v u z pl pr pn i (NoSecond j) → Searched v u z ea eb pl pr pn ql qr qn i j f
+    first-cleared c = nothing-found (λ x w p y o q a b. c .each x w p a y o q b)
+
+-- ---- the loop over second paths: every path by a class and a label before a place is cleared
+abbrev pub SecondsTo : View → View → List ℕ → List ℕ → List ℕ → List ℕ → List ℕ → ℕ → List ℕ → List ℕ → ℕ → List ℕ → ℕ → ℕ → ℕ → ℕ → Type 0
+SecondsTo v u z ea eb pl pr pn ql qr qn labels many i d at = Below v u z labels many ql qr qn at d (NoFirst v u z ea eb pl pr pn ql qr qn i)
+
+abbrev pub FirstsTo : View → View → List ℕ → List ℕ → List ℕ → List ℕ → List ℕ → ℕ → List ℕ → List ℕ → ℕ → List ℕ → ℕ → ℕ → ℕ → ℕ → Type 0
+FirstsTo v u z ea eb pl pr pn ql qr qn labels many j d at = Below v u z labels many pl pr pn at d (NoSecond v u z ea eb pl pr pn ql qr qn j)
+
+module _ (v u : View) (z ea eb pl pr : List ℕ) (pn : ℕ) (ql qr : List ℕ) (qn : ℕ) (labels : List ℕ) (many : ℕ) where
+  pub seconds-start : (i d : ℕ) → SecondsTo v u z ea eb pl pr pn ql qr qn labels many i d 0
+  seconds-start i d = below-start v u z labels many ql qr qn d _
+
+  pub firsts-start : (j d : ℕ) → FirstsTo v u z ea eb pl pr pn ql qr qn labels many j d 0
+  firsts-start j d = below-start v u z labels many pl pr pn d _
+
+  module _ (o : Opened (v .starts) (v .to)) (names : Named (v .starts) (v .labels) labels many) (at rest : ℕ) (pos : rest ≡ 0 → ⊥) (f : Found) (e : f .kind ≡ 0) (l : 128 * many ≤ at) where
+    pub seconds-end : (i : ℕ) → qn ≤ 128 → SecondsTo v u z ea eb pl pr pn ql qr qn labels many i (rest - 1) at → Searched v u z ea eb pl pr pn ql qr qn i rest f
+    seconds-end i few b =
+        second-cleared v u z ea eb pl pr pn ql qr qn i rest f e (below-end v u z labels many ql qr qn (rest - 1) _ at b o names few l rest refl pos)
+
+    pub firsts-end : (j : ℕ) → pn ≤ 128 → FirstsTo v u z ea eb pl pr pn ql qr qn labels many j (rest - 1) at → Searched v u z ea eb pl pr pn ql qr qn rest j f
+    firsts-end j few b =
+        first-cleared v u z ea eb pl pr pn ql qr qn rest j f e (below-end v u z labels many pl pr pn (rest - 1) _ at b o names few l rest refl pos)
+
+  module _ (at : ℕ) (ls rs : List ℕ) (p : Part) (f : Found) (rest : ℕ) where
+    module _ (i : ℕ) (g : Filled v u z labels many ql qr qn at ls rs p) (h : Searched v u z ea eb pl pr pn ls rs (p .count) i (rest - 1) f) where
+      pub seconds-next : f .kind ≡ 0 → SecondsTo v u z ea eb pl pr pn ql qr qn labels many i (rest - 1) at
+          → SecondsTo v u z ea eb pl pr pn ql qr qn labels many i (rest - 1) (p .next)
+      seconds-next e b =
+          below-next v u z labels many ql qr qn (rest - 1) _ at b ls rs p g (record { each = λ y o q r x w p a. h .none e x w p y o q a r })
+
+      pub second-found : (n : f .kind ≡ 0 → ⊥) (pos : rest ≡ 0 → ⊥) (s : Origin) → Comes v u z ql qr qn (f .second .cell) (f .second .word) s → (r : Tail)
+          → Prepended s (f .second) r → (f′ : Found) → f′ .kind ≡ f .kind → f′ .first ≡ f .first → f′ .second ≡ r
+          → Searched v u z ea eb pl pr pn ql qr qn i rest f′
+      second-found n pos s c r b f′ dk df ds =
+          let on = prepended v u z ls rs (p .count) ql qr qn rest pos (f .second) (h .second n) s c r b in
+          rw (dk, df, ds) (record {
+            first = λ _. h .first n;
+            second = λ _. on .tailed;
+            fails = λ _. rw (on .end, on .word) (h .fails n);
+            none = λ e. absurd (n e);
+          })
+
+    module _ (j : ℕ) (g : Filled v u z labels many pl pr pn at ls rs p) (h : Searched v u z ea eb ls rs (p .count) ql qr qn (rest - 1) j f) where
+      pub firsts-next : f .kind ≡ 0 → FirstsTo v u z ea eb pl pr pn ql qr qn labels many j (rest - 1) at
+          → FirstsTo v u z ea eb pl pr pn ql qr qn labels many j (rest - 1) (p .next)
+      firsts-next e b =
+          below-next v u z labels many pl pr pn (rest - 1) _ at b ls rs p g (record { each = λ x w p r y o q a. h .none e x w p y o q r a })
+
+      pub first-found : (n : f .kind ≡ 0 → ⊥) (pos : rest ≡ 0 → ⊥) (s : Origin) → Comes v u z pl pr pn (f .first .cell) (f .first .word) s → (r : Tail)
+          → Prepended s (f .first) r → (f′ : Found) → f′ .kind ≡ f .kind → f′ .first ≡ r → f′ .second ≡ f .second
+          → Searched v u z ea eb pl pr pn ql qr qn rest j f′
+      first-found n pos s c r b f′ dk df ds =
+          let on = prepended v u z ls rs (p .count) pl pr pn rest pos (f .first) (h .first n) s c r b in
+          rw (dk, df, ds) (record {
+            first = λ _. on .tailed;
+            second = λ _. h .second n;
+            fails = λ _. rw (on .end, on .word) (h .fails n);
+            none = λ e. absurd (n e);
+          })
+
+-- ---- the table with the one tip (x, {y})
+module _ (ls rs : List ℕ) (x y a b : ℕ) (da : a ≡ 2 ^ x) (db : b ≡ 2 ^ y) (low : x < 64) (ll : length ls ≡ 128) (lr : length rs ≡ 128) where
+  root-left : getD (set ls 0 a) 0 0 ≡ 2 ^ x
+  root-left = getD-set-same ls 0 a 0 (omega arith) ∙ da
+
+  root-right : getD (set rs 0 b) 0 0 ≡ 2 ^ y
+  root-right = getD-set-same rs 0 b 0 (omega arith) ∙ db
+
+  root-has : Has (set ls 0 a) (set rs 0 b) 1 x (2 ^ y)
+  root-has = record {
+    class = 0;
+    below = omega arith;
+    cell = low;
+    inside = ap (λ (w : ℕ). bit w x) root-left ∙ bit-pow x x ∙ eq-eqb x x refl;
+    word = root-right;
+  }
+
+  root-only : (x′ w : ℕ) → Has (set ls 0 a) (set rs 0 b) 1 x′ w → (x′ ≡ x) × (w ≡ 2 ^ y)
+  root-only x′ w h =
+      let z : h .class ≡ 0 = omega (arith, h .below) in (
+        sym (eqb-true x x′ (sym (bit-pow x x′) ∙ ap (λ (v : ℕ). bit v x′) (sym root-left) ∙ rw z at (h .inside))),
+        sym (rw z at (h .word)) ∙ root-right,
+      )
+
+  pub sought : (v u : View) (z ea eb : List ℕ) (i j : ℕ) (f : Found)
+      → Searched v u z ea eb (set ls 0 a) (set rs 0 b) 1 (set ls 0 a) (set rs 0 b) 1 i j f
+      → (r : Pair) → r .kind ≡ f .kind → r .first ≡ f .first .path → r .second ≡ f .second .path → Sought v u z ea eb x y i j r
+  unfolding failure alone fault
+  sought v u z ea eb i j f h r dk dp dq =
+      rw (dk, dp, dq) (record {
+        first = λ n. path (f .first) i (h .first n);
+        second = λ n. path (f .second) j (h .second n);
+        fails = λ n.
+            let (px, pw) = root-only _ _ (h .first n .runs .has) in
+            let (qx, qw) = root-only _ _ (h .second n .runs .has) in
+            rw (px, pw, qx, qw) at (h .fails n);
+        none = λ e p q tp lp tq lq.
+            h .none e x (2 ^ y) p x (2 ^ y) q (record { has = root-has; trail = tp; long = lp }) (record { has = root-has; trail = tq; long = lq });
+      })
+    where
+      path : (t : Tail) (d : ℕ) → Tailed v (set ls 0 a) (set rs 0 b) 1 d t → Shaped d (t .path) × Trail v x (linksIn (t .path))
+      path t d g = (g .shaped, rw (root-only _ _ (g .runs .has) .0) at (g .runs .trail))

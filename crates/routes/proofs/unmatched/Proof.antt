@@ -1,0 +1,22 @@
+use Rattle.routes.proofs.Clashes.{fault-same, fault-differ, fault-none}
+use borrow.Author.Needs.{needs}
+use Rattle.routes.proofs.unmatched.Statement.{statement}
+use Rattle.routes.proofs.unmatched.Tie as tie
+
+misses-requires : tie.Need-misses-requires
+misses-requires c κs = search needs
+
+returns : tie.Need-returns
+returns c = search fault-same
+
+misses-requires-2 : tie.Need-misses-requires-2
+misses-requires-2 c κs = search needs
+
+returns-2 : tie.Need-returns-2
+returns-2 c = search fault-differ
+
+returns-3 : tie.Need-returns-3
+returns-3 c = search fault-none
+
+pub unmatched-spec : {M : Type 1} → statement M
+unmatched-spec = tie.close (tie.spec misses-requires returns misses-requires-2 returns-2 returns-3)
