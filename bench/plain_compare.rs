@@ -1,16 +1,17 @@
-//! Compare in plain Rust, by the library's method: the same rounds over the same pairs in the same order, the same search, left at
-//! the first reason, the same words of cells and the same memo of first paths. So map and sheet are the library's to the byte.
+//! Compare in plain Rust, by the library's method: the same rounds over the same pairs in the same order, without those that a row
+//! before tells to stay; the same search over classes of paths in tables, filled and gone through in the same order, and left at the
+//! first reason. So map and sheet are the library's to the byte, with tables of as many places.
 
 use crate::support::checks::check_book;
 use crate::support::outcome::{accepted, refused, Outcome, CALL, LEFT_BOOK, RIGHT_BOOK};
+use std::sync::atomic::{AtomicUsize, Ordering};
 
 /// The kinds of an entry.
 const TRUE: u8 = 0;
 const NOT: u8 = 1;
 const AND: u8 = 2;
 const WAY: u8 = 4;
-const SAME: u8 = 5;
-const DIFFER: u8 = 6;
+const SAME: u8 = 5; // and differ is 6
 
 /// The most links of a way in a same or differ.
 const LONGEST: usize = 4;
@@ -23,8 +24,7 @@ struct Graph {
     labels: [u8; 512],
     to: [u8; 512],
     /// For each cell the cells of the same recording, and those of another.
-    same: [u64; 64],
-    differ: [u64; 64],
+    ends: [[u64; 64]; 2],
 }
 
 fn read(book: &[u8]) -> Graph {
@@ -36,16 +36,12 @@ fn read(book: &[u8]) -> Graph {
         starts: [0; 65],
         labels: [0; 512],
         to: [0; 512],
-        same: [0; 64],
-        differ: [0; 64],
+        ends: [[0; 64]; 2],
     };
     for x in 0..cells {
         for y in 0..cells {
-            if recordings[x] == recordings[y] {
-                graph.same[x] |= 1 << y;
-            } else {
-                graph.differ[x] |= 1 << y;
-            }
+            let t = (recordings[x] != recordings[y]) as usize;
+            graph.ends[t][x] |= 1 << y;
         }
     }
     for (k, link) in links.chunks(3).enumerate() {
@@ -60,20 +56,47 @@ fn read(book: &[u8]) -> Graph {
 }
 
 impl Graph {
+    /// The cells that a link with the label leads to from cell x.
+    fn targets(&self, x: usize, label: u8) -> u64 {
+        let links = self.starts[x] as usize..self.starts[x + 1] as usize;
+        let mut out = 0;
+        for (&of_link, &to) in self.labels[links.clone()].iter().zip(&self.to[links]) {
+            if of_link == label {
+                out |= 1 << to;
+            }
+        }
+        out
+    }
+
     /// The cells that a link with the label leads to from a cell of the word.
     fn image(&self, mut word: u64, label: u8) -> u64 {
         let mut out = 0;
         while word != 0 {
-            let x = word.trailing_zeros() as usize;
-            let links = self.starts[x] as usize..self.starts[x + 1] as usize;
-            for (&of_link, &to) in self.labels[links.clone()].iter().zip(&self.to[links]) {
-                if of_link == label {
-                    out |= 1 << to;
-                }
-            }
+            out |= self.targets(word.trailing_zeros() as usize, label);
             word &= word - 1;
         }
         out
+    }
+
+    /// Writes for each cell of the word where the label leads to from it.
+    fn put_rows(&self, mut word: u64, label: u8, rows: &mut [u64; 64]) {
+        while word != 0 {
+            let x = word.trailing_zeros() as usize;
+            rows[x] = self.targets(x, label);
+            word &= word - 1;
+        }
+    }
+
+    /// The labels of the links, each once, and how many they are.
+    fn labels_of(&self) -> ([u8; 512], usize) {
+        let (mut list, mut count) = ([0; 512], 0);
+        for label in &self.labels[..self.starts[64] as usize] {
+            if !list[..count].iter().any(|known| known == label) {
+                list[count] = *label;
+                count += 1;
+            }
+        }
+        (list, count)
     }
 }
 
@@ -87,14 +110,83 @@ fn passing(rows: &[u64; 64], mut word: u64) -> u64 {
     out
 }
 
-/// A path by the numbers of its first `len` links. `words[i]` has the ends of the other book's paths that are alike to its first i
-/// links.
+/// How many classes there is room for in a table. One class and label give at most 64 tips.
+const ROOM: usize = 128;
+const TIPS: usize = 64;
+
+/// How often a table was full, for the tests.
+pub static FULL: AtomicUsize = AtomicUsize::new(0);
+
+/// Paths from a cell of one book, each with the paths of the other book that are alike to it, taken together in classes: `lefts[e]`
+/// has the cells where the paths of class e end, `rights[e]` the ends of the paths of the other book alike to each of them. A tip
+/// (x, w) is an end and such a set: the tips of class e have the ends of `lefts[e]` and the set `rights[e]`.
+struct Table {
+    count: usize,
+    lefts: [u64; ROOM],
+    rights: [u64; ROOM],
+}
+
+impl Table {
+    fn empty() -> Table {
+        Table {
+            count: 0,
+            lefts: [0; ROOM],
+            rights: [0; ROOM],
+        }
+    }
+
+    /// The place of the class with the set w, or the number of classes. It looks at `near` first.
+    fn place(&self, near: usize, w: u64) -> usize {
+        if near < self.count && self.rights[near] == w {
+            return near;
+        }
+        let mut classes = self.rights[..self.count].iter();
+        classes.position(|&set| set == w).unwrap_or(self.count)
+    }
+
+    /// Puts the tip (x, w) in, and gives the place of its class.
+    fn put(&mut self, near: usize, x: usize, w: u64) -> usize {
+        let e = self.place(near, w);
+        if e == self.count {
+            self.lefts[e] = 0;
+            self.rights[e] = w;
+            self.count += 1;
+        }
+        self.lefts[e] |= 1 << x;
+        e
+    }
+
+    /// Puts the tips (y, s cut with row y) of these cells y in; false where there are already `most` classes before the last.
+    fn grow(&mut self, related: &[u64; 64], mut cells: u64, s: u64, most: usize) -> bool {
+        let mut near = 0;
+        while cells != 0 {
+            if self.count >= most {
+                return false;
+            }
+            let y = cells.trailing_zeros() as usize;
+            near = self.put(near, y, s & related[y]);
+            cells &= cells - 1;
+        }
+        true
+    }
+}
+
+fn union(sets: &[u64]) -> u64 {
+    sets.iter().fold(0, |all, set| all | set)
+}
+
+/// A path by the numbers of its first `len` links.
 #[derive(Clone, Copy)]
 struct Path {
     len: usize,
     links: [u16; LONGEST],
-    words: [u64; LONGEST + 1],
 }
+
+/// The path with no links.
+const STAY: Path = Path {
+    len: 0,
+    links: [0; LONGEST],
+};
 
 /// A reason to part two cells: the kind of its entry, the only or first path and the second.
 struct Reason {
@@ -103,177 +195,245 @@ struct Reason {
     second: Path,
 }
 
-/// What a first path asks of a second: the ends that pass with its own, and the other book's ends that pass with an end of a path
-/// alike to it.
+/// A path from a tip.
+#[derive(Clone, Copy)]
+struct Tail {
+    cell: usize,
+    word: u64,
+    path: Path,
+}
+
+/// Two paths without counterpart, by the comparison of this kind.
+struct Found {
+    kind: u8,
+    first: Tail,
+    second: Tail,
+}
+
+/// What a class of first paths asks of a class of second ones: the ends that pass with one of its own, and the other book's ends
+/// that pass with an end of a path alike to it.
 struct Asked {
     ends: u64,
     answers: u64,
 }
 
 impl Asked {
-    /// A second path with this end, and this word of the ends of those alike to it, has no counterpart.
-    fn fails(&self, end: usize, word: u64) -> bool {
-        self.ends >> end & 1 == 1 && word & self.answers == 0
+    /// Some path of the class with these ends and this set has no counterpart.
+    fn fails(&self, ends: u64, set: u64) -> bool {
+        self.ends & ends != 0 && set & self.answers == 0
     }
 }
 
-/// The first paths that are done with: for each cell of `known` that they end at, the ends of the paths alike to the last of them.
-struct Memo {
-    known: u64,
-    words: [u64; 64],
-}
-
-impl Memo {
-    fn remember(&mut self, end: usize, word: u64) {
-        self.known |= 1 << end;
-        self.words[end] = word;
-    }
-
-    fn has(&self, end: usize, word: u64) -> bool {
-        self.known >> end & 1 == 1 && self.words[end] == word
-    }
-}
-
-/// The search for a reason to part cell x of one book and cell y of the other, from x's side: row i of the relation has the cells
-/// related to cell i.
-struct Search<'a> {
+/// The search for a reason to part a cell of one book and a cell of the other, from the one's side: row i of the relation has the
+/// cells related to cell i. A table takes `PLACES` classes, or what one class and label give; where there are more, the rest comes
+/// in a further table.
+struct Search<'a, const PLACES: usize> {
     one: &'a Graph,
     other: &'a Graph,
     related: &'a [u64; 64],
-    x: usize,
-    y: usize,
 }
 
-impl Search<'_> {
-    /// The path with no links.
-    fn stay(&self) -> Path {
-        let mut words = [0; LONGEST + 1];
-        words[0] = 1 << self.y;
-        Path {
-            len: 0,
-            links: [0; LONGEST],
-            words,
-        }
-    }
-
-    fn end(&self, path: &Path) -> usize {
-        match path.len {
-            0 => self.x,
-            len => self.one.to[path.links[len - 1] as usize] as usize,
-        }
-    }
-
-    /// Makes the path the first of `len` links that begins as it does and goes on by link k or a later one, or that comes after all
-    /// that begin as it does; false if there is none.
-    fn advance(&self, path: &mut Path, mut k: u16, len: usize) -> bool {
-        loop {
-            if k < self.one.starts[self.end(path) + 1] {
-                let to = self.one.to[k as usize] as usize;
-                let next = self
-                    .other
-                    .image(path.words[path.len], self.one.labels[k as usize]);
-                path.links[path.len] = k;
-                path.len += 1;
-                path.words[path.len] = next & self.related[to];
-                if path.len == len {
-                    return true;
-                }
-                k = self.one.starts[to];
-            } else {
-                if path.len == 0 {
-                    return false;
-                }
-                path.len -= 1;
-                k = path.links[path.len] + 1;
-            }
-        }
-    }
-
-    /// Makes the path the first of `len` links; false if there is none.
-    fn first(&self, path: &mut Path, len: usize) -> bool {
-        *path = self.stay();
-        len == 0 || self.advance(path, self.one.starts[self.x], len)
-    }
-
-    /// Makes the path the next one of as many links; false if it was the last.
-    fn next(&self, path: &mut Path) -> bool {
-        let len = path.len;
-        if len == 0 {
-            return false;
-        }
-        path.len -= 1;
-        self.advance(path, path.links[len - 1] + 1, len)
-    }
-
-    /// A link without counterpart.
-    fn one_link(&self) -> Option<Path> {
-        let mut path = self.stay();
-        let mut some = self.first(&mut path, 1);
-        while some && path.words[1] != 0 {
-            some = self.next(&mut path);
-        }
-        some.then_some(path)
-    }
-
-    fn asked(&self, path: &Path, rows: &[u64; 64], other_rows: &[u64; 64]) -> Asked {
-        Asked {
-            ends: rows[self.end(path)],
-            answers: passing(other_rows, path.words[path.len]),
-        }
-    }
-
-    /// By which comparison a second path has no counterpart, if by any.
-    fn unmatched(&self, path: &Path, same: &Asked, differ: &Asked) -> Option<u8> {
-        let (end, word) = (self.end(path), path.words[path.len]);
-        if same.fails(end, word) {
-            return Some(SAME);
-        }
-        differ.fails(end, word).then_some(DIFFER)
-    }
-
-    /// Two paths of i and j links without counterpart.
-    fn two_paths(&self, i: usize, j: usize) -> Option<Reason> {
-        let (mut first, mut second) = (self.stay(), self.stay());
-        let mut done = Memo {
-            known: 0,
-            words: [0; 64],
-        };
-        let mut some = self.first(&mut first, i);
-        while some {
-            let same = self.asked(&first, &self.one.same, &self.other.same);
-            let differ = self.asked(&first, &self.one.differ, &self.other.differ);
-            let mut more = self.first(&mut second, j);
-            while more {
-                if let Some(kind) = self.unmatched(&second, &same, &differ) {
-                    return Some(Reason {
-                        kind,
-                        first,
-                        second,
-                    });
-                }
-                more = self.next(&mut second);
-            }
-            done.remember(self.end(&first), first.words[i]);
-            some = self.next(&mut first);
-            while some && done.has(self.end(&first), first.words[i]) {
-                some = self.next(&mut first);
+impl<const PLACES: usize> Search<'_, PLACES> {
+    /// Puts the tips one link beyond the classes from `from` on, by one label, into `part`. The rows have the cells that the label
+    /// leads to, in the one book and in the other. Gives the class at which `part` was full.
+    fn fill_label(
+        &self,
+        rows: &[u64; 64],
+        other_rows: &[u64; 64],
+        table: &Table,
+        from: usize,
+        part: &mut Table,
+    ) -> Option<usize> {
+        for e in from..table.count {
+            let cells = passing(rows, table.lefts[e]);
+            let s = passing(other_rows, table.rights[e]);
+            let most = match part.count {
+                0 => PLACES.max(TIPS),
+                _ => PLACES,
+            };
+            if !part.grow(self.related, cells, s, most) {
+                return Some(e);
             }
         }
         None
     }
 
+    /// Makes `part` the tips one link beyond those of the table, from the place `at` on, until it is full. Gives the place where to
+    /// go on: that of label number i and class e is `ROOM` × i + e.
+    fn fill(&self, labels: &[u8], table: &Table, at: usize, part: &mut Table) -> usize {
+        let here = union(&table.lefts[..table.count]);
+        let there = union(&table.rights[..table.count]);
+        let (mut rows, mut other_rows) = ([0; 64], [0; 64]);
+        part.count = 0;
+        let mut from = at % ROOM;
+        for (i, &label) in labels.iter().enumerate().skip(at / ROOM) {
+            self.one.put_rows(here, label, &mut rows);
+            self.other.put_rows(there, label, &mut other_rows);
+            if let Some(e) = self.fill_label(&rows, &other_rows, table, from, part) {
+                FULL.fetch_add(1, Ordering::Relaxed);
+                return ROOM * i + e;
+            }
+            from = 0;
+        }
+        ROOM * labels.len()
+    }
+
+    /// The path with a link before it, by which a tip of the table leads to where it begins.
+    fn back(&self, table: &Table, tail: Tail) -> Tail {
+        for e in 0..table.count {
+            let word = table.rights[e];
+            let mut cells = table.lefts[e];
+            while cells != 0 {
+                let cell = cells.trailing_zeros() as usize;
+                for k in self.one.starts[cell]..self.one.starts[cell + 1] {
+                    if self.one.to[k as usize] as usize == tail.cell
+                        && self.step(word, k) == tail.word
+                    {
+                        let [a, b, c, _] = tail.path.links;
+                        let path = Path {
+                            len: tail.path.len + 1,
+                            links: [k, a, b, c],
+                        };
+                        return Tail { cell, word, path };
+                    }
+                }
+                cells &= cells - 1;
+            }
+        }
+        unreachable!("a part has only tips one link beyond its table")
+    }
+
+    /// The set of the tip that link k leads to from a tip with the set w.
+    fn step(&self, w: u64, k: u16) -> u64 {
+        let to = self.one.to[k as usize] as usize;
+        self.other.image(w, self.one.labels[k as usize]) & self.related[to]
+    }
+
+    /// What the class with the ends l and the set r asks for one comparison.
+    fn asked(&self, t: usize, l: u64, r: u64) -> Asked {
+        Asked {
+            ends: passing(&self.one.ends[t], l),
+            answers: passing(&self.other.ends[t], r),
+        }
+    }
+
+    /// The tips without counterpart of two classes: (x, r) and (y, s), with x in l and y in m that pass the comparison.
+    fn pick(&self, t: usize, l: u64, r: u64, m: u64, s: u64) -> Found {
+        let y = (passing(&self.one.ends[t], l) & m).trailing_zeros() as usize;
+        let mut x = l;
+        while self.one.ends[t][x.trailing_zeros() as usize] >> y & 1 == 0 {
+            x &= x - 1;
+        }
+        let tip = |cell, word| Tail {
+            cell,
+            word,
+            path: STAY,
+        };
+        Found {
+            kind: SAME + t as u8,
+            first: tip(x.trailing_zeros() as usize, r),
+            second: tip(y, s),
+        }
+    }
+
+    /// Two tips without counterpart, one of each table.
+    fn two_tips(&self, firsts: &Table, seconds: &Table) -> Option<Found> {
+        for p in 0..firsts.count {
+            let (l, r) = (firsts.lefts[p], firsts.rights[p]);
+            let same = self.asked(0, l, r);
+            let differ = self.asked(1, l, r);
+            for q in 0..seconds.count {
+                let (m, s) = (seconds.lefts[q], seconds.rights[q]);
+                if same.fails(m, s) {
+                    return Some(self.pick(0, l, r, m, s));
+                }
+                if differ.fails(m, s) {
+                    return Some(self.pick(1, l, r, m, s));
+                }
+            }
+        }
+        None
+    }
+
+    /// Two paths without counterpart: the first ends at the tips of the one table, the second `rest` links beyond the other's.
+    fn second(&self, labels: &[u8], firsts: &Table, seconds: &Table, rest: usize) -> Option<Found> {
+        if rest == 0 {
+            return self.two_tips(firsts, seconds);
+        }
+        let mut part = Table::empty();
+        let mut at = 0;
+        while at < ROOM * labels.len() {
+            at = self.fill(labels, seconds, at, &mut part);
+            if let Some(found) = self.second(labels, firsts, &part, rest - 1) {
+                return Some(Found {
+                    second: self.back(seconds, found.second),
+                    ..found
+                });
+            }
+        }
+        None
+    }
+
+    /// Two paths without counterpart: the first `more` links beyond the tips of the one table, the second `rest` beyond the other's.
+    fn first(
+        &self,
+        labels: &[u8],
+        firsts: &Table,
+        seconds: &Table,
+        more: usize,
+        rest: usize,
+    ) -> Option<Found> {
+        if more == 0 {
+            return self.second(labels, firsts, seconds, rest);
+        }
+        let mut part = Table::empty();
+        let mut at = 0;
+        while at < ROOM * labels.len() {
+            at = self.fill(labels, firsts, at, &mut part);
+            if let Some(found) = self.first(labels, &part, seconds, more - 1, rest) {
+                return Some(Found {
+                    first: self.back(firsts, found.first),
+                    ..found
+                });
+            }
+        }
+        None
+    }
+
+    /// Two paths of i and j links from x without counterpart from y.
+    fn two_paths(&self, x: usize, y: usize, i: usize, j: usize) -> Option<Reason> {
+        let (labels, many) = self.one.labels_of();
+        let mut root = Table::empty();
+        root.put(0, x, 1 << y);
+        let found = self.first(&labels[..many], &root, &root, i, j)?;
+        Some(Reason {
+            kind: found.kind,
+            first: found.first.path,
+            second: found.second.path,
+        })
+    }
+
+    /// A link from x without counterpart from y.
+    fn one_link(&self, x: usize, y: usize) -> Option<u16> {
+        let mut links = self.one.starts[x]..self.one.starts[x + 1];
+        links.find(|&k| self.step(1 << y, k) == 0)
+    }
+
     /// First a link without counterpart; else two paths of at most `bound` links each, fewest in all first.
-    fn reason(&self, bound: usize) -> Option<Reason> {
-        if let Some(first) = self.one_link() {
+    fn reason(&self, x: usize, y: usize, bound: usize) -> Option<Reason> {
+        if let Some(k) = self.one_link(x, y) {
             return Some(Reason {
                 kind: WAY,
-                first,
-                second: self.stay(),
+                first: Path {
+                    len: 1,
+                    links: [k, 0, 0, 0],
+                },
+                second: STAY,
             });
         }
         for total in 0..=2 * bound {
             for i in total.saturating_sub(bound)..=total / 2 {
-                let reason = self.two_paths(i, total - i);
+                let reason = self.two_paths(x, y, i, total - i);
                 if reason.is_some() {
                     return reason;
                 }
@@ -337,6 +497,22 @@ impl Sheet<'_> {
         self.put_numbers(AND, &[old, question]);
     }
 
+    /// Parts the pair (i, j), whose reason is written: `at_left` is true at i and false at j, `at_right` the other way round.
+    fn part(
+        &mut self,
+        map: &mut [u16],
+        place: usize,
+        described: &mut Described,
+        (i, j): (usize, usize),
+        at_left: u16,
+        at_right: u16,
+    ) {
+        self.put_numbers(NOT, &[self.next - 1]);
+        map[place] = at_left;
+        self.describe(&mut described.left[i], at_left);
+        self.describe(&mut described.right[j], at_right);
+    }
+
     fn put_header(&mut self, bound: u8) {
         self.room[..4].copy_from_slice(&(self.at as u32).to_be_bytes());
         self.room[4] = 1;
@@ -366,8 +542,14 @@ struct Described {
     right: [u16; 64],
 }
 
-/// One round: every pair whose place holds 0, under the relation and by the descriptions that the round began with.
-fn round(
+/// The first row before row i whose place in column j holds 0, or i. A row has m places.
+fn first_row(map: &[u16], m: usize, i: usize, j: usize) -> usize {
+    (0..i).find(|x| map[x * m + j] == 0).unwrap_or(i)
+}
+
+/// One round: every pair whose place holds 0, under the relation and by the descriptions that the round began with. Rows that share
+/// a pair that stays are equal: where the twin of a row, a row before that shares one, tells that a pair stays, it is not searched.
+fn round<const PLACES: usize>(
     left: &Graph,
     right: &Graph,
     bound: usize,
@@ -375,48 +557,44 @@ fn round(
     sheet: &mut Sheet,
     described: &mut Described,
 ) {
-    let m = right.cells;
-    let (rows, columns) = relation(map, left.cells, m);
+    let (n, m) = (left.cells, right.cells);
+    let (rows, columns) = relation(map, n, m);
+    let ahead = Search::<PLACES> {
+        one: left,
+        other: right,
+        related: &rows,
+    };
+    let back = Search::<PLACES> {
+        one: right,
+        other: left,
+        related: &columns,
+    };
     let began = *described;
-    for place in 0..map.len() {
-        if map[place] != 0 {
-            continue;
+    for i in 0..n {
+        let mut twin = i;
+        for j in 0..m {
+            let place = i * m + j;
+            let follows = twin < i && map[twin * m + j] == 0;
+            if map[place] == 0 && !follows {
+                let asked = sheet.next;
+                let denied = asked + 1;
+                if let Some(reason) = ahead.reason(i, j, bound) {
+                    sheet.put_reason(left, &reason, &began.left);
+                    sheet.part(map, place, described, (i, j), asked, denied);
+                } else if let Some(reason) = back.reason(j, i, bound) {
+                    sheet.put_reason(right, &reason, &began.right);
+                    sheet.part(map, place, described, (i, j), denied, asked);
+                }
+            }
+            if twin == i && map[place] == 0 {
+                twin = first_row(map, m, i, j);
+            }
         }
-        let (i, j) = (place / m, place % m);
-        let ahead = Search {
-            one: left,
-            other: right,
-            related: &rows,
-            x: i,
-            y: j,
-        };
-        let back = Search {
-            one: right,
-            other: left,
-            related: &columns,
-            x: j,
-            y: i,
-        };
-        let asked = sheet.next;
-        let denied = asked + 1;
-        let (at_left, at_right) = if let Some(reason) = ahead.reason(bound) {
-            sheet.put_reason(left, &reason, &began.left);
-            (asked, denied)
-        } else if let Some(reason) = back.reason(bound) {
-            sheet.put_reason(right, &reason, &began.right);
-            (denied, asked)
-        } else {
-            continue;
-        };
-        sheet.put_numbers(NOT, &[asked]);
-        map[place] = at_left;
-        sheet.describe(&mut described.left[i], at_left);
-        sheet.describe(&mut described.right[j], at_right);
     }
 }
 
-/// Compare, with all its refusals.
-pub fn compare(
+/// Compare, with all its refusals. The library's tables have 128 places.
+pub fn compare<const PLACES: usize>(
     left: &[u8],
     right: &[u8],
     bound: usize,
@@ -424,6 +602,7 @@ pub fn compare(
     room: &mut [u8],
     scratch: &mut [u8],
 ) -> Outcome {
+    const { assert!(0 < PLACES && PLACES <= ROOM) };
     if bound > 4 {
         return refused(CALL, 20);
     }
@@ -458,7 +637,7 @@ pub fn compare(
     };
     loop {
         let entries = sheet.next;
-        round(&left, &right, bound, map, &mut sheet, &mut described);
+        round::<PLACES>(&left, &right, bound, map, &mut sheet, &mut described);
         if sheet.next == entries {
             break;
         }

@@ -4,13 +4,20 @@ use crate::expected::{needed, Asked};
 use crate::support::books::{
     chain, example_a_left, example_a_right, link, random_book, Book, Link,
 };
+use crate::support::partners::most_ways;
 use crate::support::random::Random;
 use crate::support::remade::{damaged, renumbered, split};
 use crate::support::shapes::{draw, OTHERS, SHAPES};
-use crate::tally::Tally;
+use crate::tally::{Tally, TENS};
+
+/// The most ways from a cell of a book of 10 to 20 cells.
+const MOST_WAYS: usize = 200;
 
 /// How many pairs of books of each shape at each bound.
 const DRAWN: usize = 400;
+
+/// How many pairs of books of 10 to 20 cells at each bound.
+const MIDDLING: usize = 40;
 
 /// How many parted pairs of a large case are claimed.
 const SOME_CLAIMS: usize = 40;
@@ -22,6 +29,8 @@ pub fn all(tally: &mut Tally) {
     by_shape(tally, random);
     same_book(tally, random);
     sizes(tally, random);
+    middling(tally, random);
+    crowded(tally, random);
     large(tally, random);
 }
 
@@ -215,6 +224,69 @@ fn sizes(tally: &mut Tally, random: &mut Random) {
             0 => ask(tally, random, &many, &few, bound, OTHERS, SOME_CLAIMS),
             _ => ask(tally, random, &few, &many, bound, OTHERS, SOME_CLAIMS),
         }
+    }
+}
+
+/// Books of 10 to 20 cells with few recordings: too large for the naive comparison at the higher bounds.
+fn middling(tally: &mut Tally, random: &mut Random) {
+    for bound in 0..=4 {
+        for round in 0..MIDDLING {
+            let (left, right) = draw_middling(random, round, bound);
+            ask(tally, random, &left, &right, bound, TENS, SOME_CLAIMS);
+        }
+    }
+}
+
+/// Two books of 10 to 20 cells, of few ways, that are much the same.
+fn draw_middling(random: &mut Random, round: usize, bound: usize) -> (Book, Book) {
+    loop {
+        let cells = random.between(10, 20);
+        let kinds = random.between(1, 3);
+        let labels = random.between(1, 4);
+        let links = random.between(cells, 3 * cells);
+        let any = |random: &mut Random, cells| random_book(random, cells, links, labels, kinds);
+        let (left, right) = match round % 4 {
+            0 => {
+                let book = any(random, cells);
+                let other = renumbered(random, &book);
+                (book, other)
+            }
+            1 => {
+                let book = any(random, cells);
+                let other = renumbered(random, &book);
+                (damaged(random, &book), other)
+            }
+            2 => {
+                let book = any(random, 10);
+                let other = split(random, &book, cells - 10, 4);
+                (book, renumbered(random, &other))
+            }
+            _ => (any(random, cells), any(random, cells)),
+        };
+        if most_ways(&left, bound).max(most_ways(&right, bound)) <= MOST_WAYS {
+            return (left, right);
+        }
+    }
+}
+
+/// Books with so many classes of paths of one length that the tables of the library are too small for them.
+fn crowded(tally: &mut Tally, random: &mut Random) {
+    for cells in [10, 12, 14, 16] {
+        let mut book = random_book(random, cells, 0, 1, 3);
+        for from in 0..cells as u8 {
+            for label in 0..4 {
+                for _ in 0..random.between(1, 2) {
+                    book.links
+                        .push(link(from, label, random.below(cells) as u8));
+                }
+            }
+        }
+        book.links.sort();
+        book.links.dedup();
+        let other = renumbered(random, &book);
+        ask(tally, random, &book, &other, 4, TENS, SOME_CLAIMS);
+        let other = damaged(random, &other);
+        ask(tally, random, &book, &other, 4, TENS, SOME_CLAIMS);
     }
 }
 

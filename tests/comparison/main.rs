@@ -1,9 +1,13 @@
-//! Compare, compared with a naive comparison written from document 01, section "Partners". The questions that it names are checked
-//! with the naive evaluator, and by their depth and bound.
+//! Compare, compared with a naive comparison written from document 01, section "Partners", and with the plain search of all pairs of
+//! paths, beside the plain version of its method with tables of few places. The questions that it names are checked with the naive
+//! evaluator, and by their depth and bound.
 
 mod expected;
 mod inputs;
+#[path = "../../bench/plain_compare.rs"]
+mod plain_compare;
 mod refused_inputs;
+mod searches;
 #[path = "../support/mod.rs"]
 mod support;
 mod tally;
@@ -15,5 +19,5 @@ fn main() {
     inputs::all(&mut tally);
     refused_inputs::all(&mut tally);
     let cases = tally.report();
-    println!("comparison: the library and the naive comparison agree in {cases} cases");
+    println!("comparison: the library, the naive comparison and the search of all pairs of paths agree in {cases} cases");
 }

@@ -1,20 +1,25 @@
 //! Compares the library with the naive comparison, call by call, checks all that it writes, and counts the answers.
 
 use crate::expected::{refusal, Asked};
+use crate::searches::{Searches, Written};
 use crate::support::books::Book;
 use crate::support::call::Call;
 use crate::support::checks::check_sheet;
 use crate::support::counts::{Counts, OF_BOOK};
 use crate::support::lent::Lent;
 use crate::support::library;
+use crate::support::loops::{partings, Dropped};
 use crate::support::meaning::sheet_cells;
 use crate::support::measures::{depths, keeping};
-use crate::support::outcome::{accepted, Outcome, CALL, LEFT_BOOK, RIGHT_BOOK};
-use crate::support::partners::rounds;
+use crate::support::outcome::{accepted, CALL, LEFT_BOOK, RIGHT_BOOK};
+use crate::support::partners::{most_ways, rounds};
 use crate::support::random::Random;
 use crate::support::shapes::{OTHERS, SHAPES};
 use crate::support::sheets::{Entry, Sheet};
 use std::collections::BTreeMap;
+
+/// The naive comparison is in reach for so many pairs of cells times pairs of ways.
+const REACH: usize = 2_000_000;
 
 /// The pairs of one shape at one bound.
 #[derive(Clone, Copy, Default)]
@@ -26,25 +31,24 @@ struct Pairs {
     by_bound: usize,
 }
 
+/// The place of books of 10 to 20 cells, after that of all that is of no shape.
+pub const TENS: usize = OTHERS + 1;
+
 pub struct Tally {
     random: Random,
     compare: Counts,
     claims: usize,
     turn: usize,
-    /// Of each shape, by its place in `SHAPES`, and of all others at the end; by bound.
-    pairs: [[Pairs; 5]; OTHERS + 1],
+    /// Of each shape, by its place in `SHAPES`, of all others and of `TENS` at the end; by bound.
+    pairs: [[Pairs; 5]; TENS + 1],
     /// The questions named in a map, by what they are, and by their depth.
     questions: BTreeMap<&'static str, usize>,
     depths: BTreeMap<usize, usize>,
     /// How many are no deeper than the round in which the naive comparison drops the pair.
     least: usize,
-}
-
-/// What Compare left.
-struct Written<'a> {
-    answer: Outcome,
-    map: &'a [u16],
-    room: &'a [u8],
+    searches: Searches,
+    /// In how many cases the naive comparison was in reach.
+    naive: usize,
 }
 
 impl Tally {
@@ -58,6 +62,8 @@ impl Tally {
             questions: BTreeMap::new(),
             depths: BTreeMap::new(),
             least: 0,
+            searches: Searches::default(),
+            naive: 0,
         }
     }
 
@@ -145,22 +151,31 @@ impl Tally {
     fn pairs(&mut self, call: &Call, asked: Asked, written: &Written, sheet: &Sheet, shape: usize) {
         let (one, other) = (Book::of_bytes(asked.left), Book::of_bytes(asked.right));
         let (n, m) = (one.cells(), other.cells());
-        let dropped = rounds(&one, &other, asked.bound);
+        let dropped = partings(&one, &other, asked.bound);
         let dropped_before = match asked.bound {
             0 => dropped.clone(),
-            bound => rounds(&one, &other, bound - 1),
+            bound => partings(&one, &other, bound - 1),
         };
+        let ways = most_ways(&one, asked.bound).max(most_ways(&other, asked.bound));
+        if n * m * ways * ways <= REACH {
+            let by_loops: Vec<_> = dropped.iter().map(|d| d.map(|d| d.round)).collect();
+            if rounds(&one, &other, asked.bound) != by_loops {
+                call.fail("the naive comparison and all pairs of paths give different rounds");
+            }
+            self.naive += 1;
+        }
+        self.searches.check(call, asked, written, &dropped, ways);
         let (of_left, of_right) = (sheet_cells(&one, sheet), sheet_cells(&other, sheet));
         let (depths, keeping) = (depths(sheet), keeping(sheet, asked.bound));
         let pairs = &mut self.pairs[shape][asked.bound];
         pairs.cases += 1;
-        for (place, (&number, round)) in written.map.iter().zip(&dropped).enumerate() {
+        for (place, (&number, dropped)) in written.map.iter().zip(&dropped).enumerate() {
             let (i, j) = (place / m, place % m);
             let fail = |what: &str| -> ! {
                 call.fail(&format!("left {i}, right {j}, entry {number}: {what}"))
             };
             let entry = number as usize;
-            let Some(round) = *round else {
+            let Some(Dropped { round, .. }) = *dropped else {
                 if entry != 0 {
                     fail("the pair is matched");
                 }
@@ -246,6 +261,8 @@ impl Tally {
         println!("  by depth {shallow:?}, the deepest {deepest}");
         println!("  of the least depth that there can be: {}", self.least);
         println!("  claimed: {}", self.claims);
+        println!("the naive comparison was in reach in {} cases", self.naive);
+        self.searches.report();
         cases
     }
 
@@ -257,7 +274,10 @@ impl Tally {
             print!("{:>22}", format!("bound {bound}"));
         }
         println!();
-        let names = SHAPES.iter().map(|shape| shape.name).chain(["others"]);
+        let names = SHAPES
+            .iter()
+            .map(|shape| shape.name)
+            .chain(["others", "10 to 20 cells"]);
         for (name, of_shape) in names.zip(&self.pairs) {
             let cases: usize = of_shape.iter().map(|pairs| pairs.cases).sum();
             print!("  {name:<20}{cases:>6}");

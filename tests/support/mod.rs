@@ -8,6 +8,7 @@ pub mod checks;
 pub mod counts;
 pub mod lent;
 pub mod library;
+pub mod loops;
 pub mod meaning;
 pub mod measures;
 pub mod outcome;

@@ -1,0 +1,175 @@
+//! What parts the pairs: the library, and the plain version of its method with tables of few places, beside the plain search of all
+//! pairs of paths. They have the same matched pairs, and every comparison has the same number of steps in all.
+
+use crate::expected::Asked;
+use crate::plain_compare::{self, FULL};
+use crate::support::call::Call;
+use crate::support::loops::{Dropped, Reason};
+use crate::support::outcome::Outcome;
+use crate::support::sheets::{Entry, Sheet};
+use std::collections::BTreeMap;
+use std::sync::atomic::Ordering;
+
+/// How many places the tables of the library have.
+const PLACES: usize = 128;
+
+/// Tables of N places are tried where the cells times the pairs of ways are at most so many times N².
+const REACH: usize = 20_000;
+
+/// What Compare left.
+pub struct Written<'a> {
+    pub answer: Outcome,
+    pub map: &'a [u16],
+    pub room: &'a [u8],
+}
+
+/// The cases with tables of so many places, how often one was full and in how many cases, and how many have another sheet than with
+/// `PLACES`.
+#[derive(Clone, Copy, Default)]
+struct Counted {
+    cases: usize,
+    full: usize,
+    full_cases: usize,
+    others: usize,
+}
+
+#[derive(Default)]
+pub struct Searches {
+    /// The comparisons that the library's maps name, by their steps in all.
+    steps: BTreeMap<usize, usize>,
+    /// By the places of the tables.
+    by_places: BTreeMap<usize, Counted>,
+}
+
+impl Searches {
+    /// Compares what the library wrote with what the plain search of all pairs of paths gives, and so the plain version's. A cell
+    /// has so many ways at most.
+    pub fn check(
+        &mut self,
+        call: &Call,
+        asked: Asked,
+        written: &Written,
+        dropped: &[Option<Dropped>],
+        ways: usize,
+    ) {
+        let sheet = sheet_of(written.answer, written.room);
+        same_reasons(call, "the library", written.map, &sheet, dropped);
+        for &number in written.map.iter().filter(|&&number| number != 0) {
+            let reason = reason(&sheet, number);
+            if !reason.link {
+                *self.steps.entry(reason.steps).or_insert(0) += 1;
+            }
+        }
+        self.plain::<PLACES>(call, asked, written, dropped);
+        let cells = (asked.left[5] + asked.right[5]) as usize;
+        let in_reach = |places: usize| cells * ways * ways <= REACH * places * places;
+        if in_reach(8) {
+            self.plain::<8>(call, asked, written, dropped);
+        }
+        if in_reach(3) {
+            self.plain::<3>(call, asked, written, dropped);
+        }
+        if in_reach(2) {
+            self.plain::<2>(call, asked, written, dropped);
+        }
+        if in_reach(1) {
+            self.plain::<1>(call, asked, written, dropped);
+        }
+    }
+
+    /// The plain version with tables of so many places. With `PLACES` it writes what the library writes.
+    fn plain<const N: usize>(
+        &mut self,
+        call: &Call,
+        asked: Asked,
+        written: &Written,
+        dropped: &[Option<Dropped>],
+    ) {
+        let mut map = vec![u16::MAX; asked.map];
+        let mut room = vec![0; asked.room];
+        let mut scratch = vec![0; asked.scratch];
+        let full_before = FULL.load(Ordering::Relaxed);
+        let answer = plain_compare::compare::<N>(
+            asked.left,
+            asked.right,
+            asked.bound,
+            &mut map,
+            &mut room,
+            &mut scratch,
+        );
+        let who = format!("the plain version with tables of {N} places");
+        let sheet = sheet_of(answer, &room);
+        same_reasons(call, &who, &map, &sheet, dropped);
+        let length = written.answer.first as usize;
+        let other = answer != written.answer
+            || map != written.map
+            || room[..length] != written.room[..length];
+        if N == PLACES && other {
+            call.fail(&format!("{who} does not write what the library does"));
+        }
+        let full = FULL.load(Ordering::Relaxed) - full_before;
+        let counted = self.by_places.entry(N).or_default();
+        counted.cases += 1;
+        counted.full += full;
+        counted.full_cases += (full != 0) as usize;
+        counted.others += other as usize;
+    }
+
+    /// Prints the counts, and ends the test where some tables were never full.
+    pub fn report(&self) {
+        let all: usize = self.steps.values().sum();
+        println!(
+            "comparisons named in maps: {all}, by steps in all {:?}",
+            self.steps
+        );
+        println!("the plain version by the places of its tables, as many steps as with all pairs of paths:");
+        for (places, counted) in &self.by_places {
+            println!(
+                "  places {places:>3}: {:>6} cases; {:>6} with a full table, {:>7} times in all; {:>4} with another sheet than the library's",
+                counted.cases, counted.full_cases, counted.full, counted.others
+            );
+            if counted.full == 0 {
+                println!("tables of {places} places were never full");
+                std::process::exit(1);
+            }
+        }
+    }
+}
+
+fn sheet_of(answer: Outcome, room: &[u8]) -> Sheet {
+    Sheet::of_bytes(&room[..answer.first as usize])
+}
+
+/// The reason that an entry puts, or denies.
+fn reason(sheet: &Sheet, number: u16) -> Reason {
+    match &sheet.entries[number as usize] {
+        Entry::Not(denied) => Reason {
+            from_left: false,
+            ..reason(sheet, *denied)
+        },
+        Entry::Way(way) => Reason {
+            from_left: true,
+            link: true,
+            steps: way.len(),
+        },
+        Entry::Same(w, v) | Entry::Differ(w, v) => Reason {
+            from_left: true,
+            link: false,
+            steps: w.len() + v.len(),
+        },
+        entry => panic!("{entry:?} is no reason"),
+    }
+}
+
+/// The same pairs are parted, each from the same side, by a link or else by a comparison, with as many steps in all.
+fn same_reasons(call: &Call, who: &str, map: &[u16], sheet: &Sheet, dropped: &[Option<Dropped>]) {
+    for (place, (&number, dropped)) in map.iter().zip(dropped).enumerate() {
+        let given = (number != 0).then(|| reason(sheet, number));
+        let expected = dropped.map(|dropped| dropped.reason);
+        if given != expected {
+            call.fail(&format!(
+                "place {place}: {who} gives {given:?}, all pairs of paths give {expected:?}"
+            ));
+        }
+    }
+}
