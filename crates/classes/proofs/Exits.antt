@@ -1,11 +1,11 @@
 -- What each turn and each way out of the functions shows. Every number that the code computed is a variable here, with what is known of it, so
 -- that `search` finds it in a need's record. Assumes nothing.
-use mathlib.Core.Bool.{Bool, true, false, So, not, _&&_, _||_, false≢true}
+use mathlib.Core.Bool.{Bool, true, false, So, false≢true}
 use mathlib.Core.Path.{_≡_, refl, sym, ap, _∙_}
 use mathlib.Core.Logic.{_⊎_, inl, inr, ⊎-elim}
 use mathlib.Core.List.{List}
 use Prim.Native.Nat.{ℕ, _+_, _*_, _/_, _%_, _^_, _≤_, _<_}
-use native.Mathlib.Nat.{eq-or-lt-of-le, pos-of-ne-zero}
+use native.Mathlib.Nat.{eq-or-lt-of-le}
 use native.Mathlib.Omega.{arith}
 use borrow.Author.Tests.{eqb-true, eq-eqb, ne-eqb}
 use lib.Bits.{bitAnd, bitOr}
@@ -13,16 +13,18 @@ use lib.Dec.{eqb}
 use lib.ListN.{length, getD, set, length-set}
 use lib.Seq.{getD-set-same, getD-set-other}
 use Rattle.theory.specs.Tests.{never, le-or-lt, and-iff, or-iff, not-iff, facts}
-use Rattle.words.specs.Words.{bit, first, IsLowest, IsWithout}
-use Rattle.words.specs.Laws.{bit-zero, bit-pow, bit-or, bit-with, bit-without, first-there, first-least, first-lt}
+use Rattle.words.specs.Words.{bit, IsLowest, IsWithout}
+use Rattle.words.specs.Laws.{bit-zero, bit-or, bit-without}
 use Rattle.hops.specs.Hops.{View, startOf, labelOf, toOf, total, hopsOf, Opened}
 use Rattle.hops.specs.Sets.{reached, imageOf, rowAt}
-use Rattle.classes.specs.declared.Grown.{Grown}
+use Rattle.tables.specs.declared.Grown.{Grown}
+use Rattle.tables.specs.Tips.{Has, Covered, Room, Grew}
+use Rattle.tables.specs.Laws.{covered-by-has, covered-trans}
 use Rattle.classes.specs.declared.Stretch.{Stretch}
 use Rattle.classes.specs.declared.Part.{Part}
 use Rattle.classes.specs.declared.Origin.{Origin}
 use Rattle.classes.specs.Paths.{stepWord}
-use Rattle.classes.specs.Tables.{Has, Leads, Beyond, Room, Placed, Added, Grew, Named, Unites, Rowed, cellsBy, setBy, Stretched, Moves, slot, Filled, leading, Joins, Comes}
+use Rattle.classes.specs.Tables.{Leads, Beyond, Placed, Named, Unites, Rowed, cellsBy, setBy, Stretched, Moves, slot, Filled, leading, Joins, Comes}
 use Rattle.classes.specs.Laws.{spread-agrees, leaves-low, image-in, image-out}
 
 -- what is below the next number is at most this one
@@ -78,175 +80,13 @@ pub leading-off : (u : View) (z : List ℕ) (w a t y o : ℕ) → (t ≡ y → �
 unfolding leading
 leading-off u z w a t y o n = rw (ne-eqb t y n)
 
--- ---- a tip is put into a table
+-- ---- two numbers are equal, or not
 equal-or : (i j : ℕ) → (i ≡ j) ⊎ (i ≡ j → ⊥)
 equal-or i j = by (eqb i j) refl
   where
     by : (b : Bool) → eqb i j ≡ b → (i ≡ j) ⊎ (i ≡ j → ⊥)
     by true e = inl (eqb-true i j e)
     by false e = inr (λ q. false≢true (sym e ∙ eq-eqb i j q))
-
-module _ (ls rs : List ℕ) (n x w : ℕ) (room : Room ls rs n) (low : x < 64) where
-  -- into a class that has the set
-  module _ (e l : ℕ) (placed : Placed rs n w e) (here : e < n) (d : l ≡ bitOr (getD ls e 0) (2 ^ x)) where
-    is : getD rs e 0 ≡ w
-    is = placed .there here
-
-    at-same : getD (set ls e l) e 0 ≡ bitOr (getD ls e 0) (2 ^ x)
-    at-same = getD-set-same ls e l 0 (omega (arith, room .left, room .few)) ∙ d
-
-    bit-same : (y : ℕ) → bit (getD (set ls e l) e 0) y ≡ bit (getD ls e 0) y || eqb x y
-    bit-same y = ap (λ (v : ℕ). bit v y) at-same ∙ bit-with (getD ls e 0) x y
-
-    joins-sound : (y o : ℕ) → Has (set ls e l) rs n y o → Has ls rs n y o ⊎ ((y ≡ x) × (o ≡ w))
-    joins-sound y o h =
-        ⊎-elim
-        (λ q. ⊎-elim
-        (λ i. inl (record { class = e; below = here; cell = h .cell; inside = i; word = rw q at (h .word) }))
-        (λ i. inr (sym (eqb-true x y i), sym (rw q at (h .word)) ∙ is))
-        (or-iff _ _ .0 (sym (bit-same y) ∙ rw q at (h .inside))))
-        (λ q. inl (record {
-          class = h .class;
-          below = h .below;
-          cell = h .cell;
-          inside = rw (getD-set-other ls e (h .class) l 0 q) at (h .inside);
-          word = h .word;
-        }))
-        (equal-or (h .class) e)
-
-    joins-kept : (y o : ℕ) → Has ls rs n y o → Has (set ls e l) rs n y o
-    joins-kept y o h =
-        ⊎-elim
-        (λ q. record { class = e; below = here; cell = h .cell; inside = bit-same y ∙ or-iff _ _ .1 (inl (rw q at (h .inside))); word = rw q at (h .word) })
-        (λ q. record { class = h .class; below = h .below; cell = h .cell; inside = rw (getD-set-other ls e (h .class) l 0 q) (h .inside); word = h .word })
-        (equal-or (h .class) e)
-
-    pub joined : Added ls rs n x w (set ls e l) rs n
-    joined = record {
-      room = record { left = length-set ls e l ∙ room .left; right = room .right; few = room .few };
-      few = omega arith;
-      sound = joins-sound;
-      kept = joins-kept;
-      new = record { class = e; below = here; cell = low; inside = bit-same x ∙ or-iff (bit (getD ls e 0) x) _ .1 (inr (eq-eqb x x refl)); word = is };
-    }
-
-  -- into a class of its own
-  module _ (l n′ : ℕ) (less : n < 128) (d : l ≡ 2 ^ x) (dn : n′ ≡ n + 1) where
-    at-new : getD (set ls n l) n 0 ≡ 2 ^ x
-    at-new = getD-set-same ls n l 0 (omega (arith, room .left)) ∙ d
-
-    word-new : getD (set rs n w) n 0 ≡ w
-    word-new = getD-set-same rs n w 0 (omega (arith, room .right))
-
-    news-sound : (y o : ℕ) → Has (set ls n l) (set rs n w) n′ y o → Has ls rs n y o ⊎ ((y ≡ x) × (o ≡ w))
-    news-sound y o h =
-        ⊎-elim
-        (λ q. inr (sym (eqb-true x y (sym (bit-pow x y) ∙ ap (λ (v : ℕ). bit v y) (sym at-new) ∙ rw q at (h .inside))), sym (rw q at (h .word)) ∙ word-new))
-        (λ s. inl (record {
-          class = h .class;
-          below = s;
-          cell = h .cell;
-          inside = rw (getD-set-other ls n (h .class) l 0 (λ q. omega arith)) at (h .inside);
-          word = rw (getD-set-other rs n (h .class) w 0 (λ q. omega arith)) at (h .word);
-        }))
-        (eq-or-lt-of-le (at-most n (h .class) (rw dn at (h .below))))
-
-    pub begun : Added ls rs n x w (set ls n l) (set rs n w) n′
-    begun = record {
-      room = record { left = length-set ls n l ∙ room .left; right = length-set rs n w ∙ room .right; few = omega arith };
-      few = omega arith;
-      sound = news-sound;
-      kept = λ y o h. record {
-        class = h .class;
-        below = omega (arith, h .below);
-        cell = h .cell;
-        inside = rw (getD-set-other ls n (h .class) l 0 (λ q. omega (arith, h .below))) (h .inside);
-        word = rw (getD-set-other rs n (h .class) w 0 (λ q. omega (arith, h .below))) (h .word);
-      };
-      new = record { class = n; below = omega arith; cell = low; inside = ap (λ (v : ℕ). bit v x) at-new ∙ bit-pow x x ∙ eq-eqb x x refl; word = word-new };
-    }
-
--- ---- tips are put into a table, one for each node of a set: of each node, it is still to come, or its tip is in the table
-pub record Growing (z ls₀ rs₀ : List ℕ) (n cells s : ℕ) (ls rs : List ℕ) (count left : ℕ) : Type 0 where
-  pub room : Room ls rs count
-  pub mark : ℕ
-  pub many : count ≤ n + mark
-  pub rest : (i : ℕ) → So (bit left i) → mark ≤ i
-  pub small : left < 2 ^ 64
-  pub sound : (y o : ℕ) → Has ls rs count y o → Has ls₀ rs₀ n y o ⊎ (So (bit cells y) × (bitAnd s (getD z y 0) ≡ o))
-  pub kept : (y o : ℕ) → Has ls₀ rs₀ n y o → Has ls rs count y o
-  pub part : (y : ℕ) → So (bit left y) → So (bit cells y)
-  pub done : (y : ℕ) → y < 64 → So (bit cells y) → So (bit left y) ⊎ Has ls rs count y (bitAnd s (getD z y 0))
-
-module _ (z ls₀ rs₀ : List ℕ) (n cells s : ℕ) where
-  pub growing-start : Room ls₀ rs₀ n → cells < 2 ^ 64 → Growing z ls₀ rs₀ n cells s ls₀ rs₀ n cells
-  growing-start r l = record {
-    room = r;
-    mark = 0;
-    many = omega arith;
-    rest = λ i _. omega arith;
-    small = l;
-    sound = λ y o h. inl h;
-    kept = λ y o h. h;
-    part = λ y i. i;
-    done = λ y _ i. inl i;
-  }
-
-  module _ (ls rs : List ℕ) (count left : ℕ) (g : Growing z ls₀ rs₀ n cells s ls rs count left) where
-    pub growing-end : left ≡ 0 → (r : Grown) → r .count ≡ count → r .full ≡ false → Grew z ls₀ rs₀ n cells s ls rs r
-    growing-end e r dc df = record {
-      room = rw dc (g .room);
-      full = λ t. absurd (false≢true (sym df ∙ t));
-      sound = rw dc (g .sound);
-      kept = rw dc (g .kept);
-      whole = λ _ y l i. rw dc (⊎-elim (λ j. never (sym (bit-zero y) ∙ rw e at j)) (λ h. h) (g .done y l i));
-    }
-
-    pub growing-full : (left ≡ 0 → ⊥) → count ≡ 128 → (r : Grown) → r .count ≡ count → r .full ≡ true → Grew z ls₀ rs₀ n cells s ls rs r
-    growing-full e f r dc df = record {
-      room = rw dc (g .room);
-      full = λ _. omega (arith, g .many, g .rest _ there, below);
-      sound = rw dc (g .sound);
-      kept = rw dc (g .kept);
-      whole = λ t. absurd (false≢true (sym t ∙ df));
-    }
-      where
-        below : first 64 (bit left) < 64
-        below = first-lt 64 left (pos-of-ne-zero e) (g .small)
-
-        there : So (bit left (first 64 (bit left)))
-        there = first-there 64 (bit left) below
-
-    module _ (y left′ o : ℕ) (ls′ rs′ : List ℕ) (count′ : ℕ) (low : IsLowest left y) (off : IsWithout left y left′) (d : o ≡ bitAnd s (getD z y 0))
-        (a : Added ls rs count y o ls′ rs′ count′) where
-      bit-off : (i : ℕ) → bit left′ i ≡ bit left i && not (eqb y i)
-      bit-off i = ap (λ (w : ℕ). bit w i) (off .is) ∙ bit-without left y i (low .there)
-
-      least : (i : ℕ) → So (bit left i) → y ≤ i
-      least i e = ⊎-elim (λ l. l) (λ l. never (sym (first-least 64 (bit left) i (omega (arith, low .is))) ∙ e)) (le-or-lt y i)
-
-      rest-off : (i : ℕ) → So (bit left′ i) → y + 1 ≤ i
-      rest-off i e =
-          let (p, q) = and-iff _ _ .0 (sym (bit-off i) ∙ e) in
-          ⊎-elim (λ r. absurd (not-iff _ .0 q (eq-eqb y i r))) (λ l. omega arith) (eq-or-lt-of-le (least i p))
-
-      pub growing-next : Growing z ls₀ rs₀ n cells s ls′ rs′ count′ left′
-      growing-next = record {
-        room = a .room;
-        mark = y + 1;
-        many = omega (arith, a .few, g .many, g .rest y (low .there));
-        rest = rest-off;
-        small = omega (arith, off .less, g .small);
-        sound = λ x w h. ⊎-elim (λ h. g .sound x w h) (λ (p, q). inr (rw p (g .part y (low .there)), rw p (sym d) ∙ sym q)) (a .sound x w h);
-        kept = λ x w h. a .kept x w (g .kept x w h);
-        part = λ x e. g .part x (and-iff _ _ .0 (sym (bit-off x) ∙ e) .0);
-        done = λ x l e. ⊎-elim (λ i. left-or x i (equal-or y x)) (λ h. inr (a .kept x _ h)) (g .done x l e);
-      }
-        where
-          left-or : (x : ℕ) → So (bit left x) → (y ≡ x) ⊎ (y ≡ x → ⊥) → So (bit left′ x) ⊎ Has ls′ rs′ count′ x (bitAnd s (getD z x 0))
-          left-or x i e = ⊎-elim
-              (λ q. inr (rw (← q, ← d) (a .new)))
-              (λ q. inl (bit-off x ∙ and-iff _ _ .1 (i, not-iff _ .1 (λ t. q (eqb-true y x t))))) e
 
 -- ---- labels: each link passed has its label in the list
 pub record Naming (labels list : List ℕ) (count k : ℕ) : Type 0 where
@@ -378,15 +218,15 @@ module _ (v : View) (cells a base : ℕ) (rows₀ : List ℕ) where
               (λ e. inr (getD-set-other rows (base + x) (base + y) r 0 (λ q. n (omega arith)) ∙ e))
               (g .each y l i)) h
 
--- ---- the classes of a table are gone through for one label: the tips by those passed are in the other table
+-- ---- the classes of a table are gone through for one label: the other table covers the tips by those passed
 pub record Stretching (z rows ls rs : List ℕ) (n from : ℕ) (ls₀ rs₀ : List ℕ) (count : ℕ) (ls′ rs′ : List ℕ) (total e : ℕ) : Type 0 where
   pub room : Room ls′ rs′ total
   pub onward : from ≤ e
   pub fresh : e ≡ from → total ≡ count
   pub sound : (y o : ℕ) → Has ls′ rs′ total y o
       → Has ls₀ rs₀ count y o ⊎ ((e : ℕ) × (e < n) × So (bit (cellsBy rows ls e) y) × (bitAnd (setBy rows rs e) (getD z y 0) ≡ o))
-  pub kept : (y o : ℕ) → Has ls₀ rs₀ count y o → Has ls′ rs′ total y o
-  pub whole : (j y : ℕ) → from ≤ j → j < e → y < 64 → So (bit (cellsBy rows ls j) y) → Has ls′ rs′ total y (bitAnd (setBy rows rs j) (getD z y 0))
+  pub kept : (y o : ℕ) → Has ls₀ rs₀ count y o → Covered ls′ rs′ total y o
+  pub whole : (j y : ℕ) → from ≤ j → j < e → y < 64 → So (bit (cellsBy rows ls j) y) → Covered ls′ rs′ total y (bitAnd (setBy rows rs j) (getD z y 0))
 
 module _ (z rows ls rs : List ℕ) (n from : ℕ) (ls₀ rs₀ : List ℕ) (count : ℕ) where
   pub stretching-start : Room ls₀ rs₀ count → Stretching z rows ls rs n from ls₀ rs₀ count ls₀ rs₀ count from
@@ -395,7 +235,7 @@ module _ (z rows ls rs : List ℕ) (n from : ℕ) (ls₀ rs₀ : List ℕ) (coun
     onward = omega arith;
     fresh = λ _. refl;
     sound = λ y o h. inl h;
-    kept = λ y o h. h;
+    kept = covered-by-has ls₀ rs₀ count;
     whole = λ j y a b. absurd (omega arith);
   }
 
@@ -417,13 +257,20 @@ module _ (z rows ls rs : List ℕ) (n from : ℕ) (ls₀ rs₀ : List ℕ) (coun
           → Has ls₀ rs₀ count y o ⊎ ((e : ℕ) × (e < n) × So (bit (cellsBy rows ls e) y) × (bitAnd (setBy rows rs e) (getD z y 0) ≡ o))
       on-sound y o h = ⊎-elim (λ h. f .sound y o h) (λ (i, q). inr (e, l, rw (← dc) i, rw (← ds) q)) (w .sound y o h)
 
+      -- what was covered before is covered still
+      still : (y o : ℕ) → Covered ls′ rs′ total y o → Covered ls″ rs″ (g .count) y o
+      still = covered-trans ls′ rs′ total ls″ rs″ (g .count) (w .kept)
+
+      on-kept : (y o : ℕ) → Has ls₀ rs₀ count y o → Covered ls″ rs″ (g .count) y o
+      on-kept y o h = still y o (f .kept y o h)
+
       pub stretching-full : g .full ≡ true → (r : Stretch) → r .count ≡ g .count → r .upto ≡ e → r .full ≡ true
           → Stretched z rows ls rs n from ls₀ rs₀ count ls″ rs″ r
       stretching-full t r dn du df = record {
         room = rw dn (w .room);
         sound = rw dn on-sound;
-        kept = λ y o h. rw dn (w .kept y o (f .kept y o h));
-        whole = λ j y a b c d. rw dn (w .kept _ _ (f .whole j y a (rw du at b) c d));
+        kept = rw dn on-kept;
+        whole = λ j y a b c d. rw dn (still _ _ (f .whole j y a (rw du at b) c d));
         onward = rw du (f .onward);
         full = λ _. (omega arith, rw du (⊎-elim (λ q. inr (omega (arith, w .full t, f .fresh (sym q)))) (λ o. inl o) (eq-or-lt-of-le (f .onward))));
         all = λ t. absurd (false≢true (sym t ∙ df));
@@ -435,14 +282,14 @@ module _ (z rows ls rs : List ℕ) (n from : ℕ) (ls₀ rs₀ : List ℕ) (coun
         onward = omega (arith, f .onward);
         fresh = λ q. absurd (omega (arith, f .onward));
         sound = on-sound;
-        kept = λ y o h. w .kept y o (f .kept y o h);
+        kept = on-kept;
         whole = λ j y a b m i. ⊎-elim
             (λ q. rw q (new y m (rw q at i)))
-            (λ s. w .kept _ _ (f .whole j y a s m i))
+            (λ s. still _ _ (f .whole j y a s m i))
             (eq-or-lt-of-le (at-most e j b));
       }
         where
-          new : (y : ℕ) → y < 64 → So (bit (cellsBy rows ls e) y) → Has ls″ rs″ (g .count) y (bitAnd (setBy rows rs e) (getD z y 0))
+          new : (y : ℕ) → y < 64 → So (bit (cellsBy rows ls e) y) → Covered ls″ rs″ (g .count) y (bitAnd (setBy rows rs e) (getD z y 0))
           new y m i = rw ds at (w .whole t y m (rw dc i))
 
 -- ---- the rows of a label, of both books, in one table
@@ -461,59 +308,69 @@ module _ (v u : View) (here there a : ℕ) (rows rows₁ rows₂ : List ℕ) (f 
 or-not : (m n : ℕ) → (m < n) ⊎ (n ≤ m)
 or-not m n = ⊎-elim (λ l. inr l) (λ l. inl l) (le-or-lt n m)
 
--- ---- a part is filled: it has the tips by the classes and labels passed
-pub record Filling (v u : View) (z labels : List ℕ) (many : ℕ) (ls rs : List ℕ) (n at : ℕ) (ls′ rs′ : List ℕ) (count i from : ℕ) : Type 0 where
+-- ---- a part is filled: it covers what it had and the tips by the classes and labels passed
+pub record Filling (v u : View) (z labels : List ℕ) (many : ℕ) (ls rs : List ℕ) (n at : ℕ) (ls₀ rs₀ : List ℕ) (have : ℕ) (ls′ rs′ : List ℕ) (count i from : ℕ) : Type 0 where
   pub room : Room ls′ rs′ count
   pub begun : at ≤ slot from i
   pub few : from < 128
-  pub fresh : slot from i ≡ at → count ≡ 0
-  pub sound : (y o : ℕ) → Has ls′ rs′ count y o → Beyond v u z ls rs n y o
+  pub fresh : slot from i ≡ at → count ≡ have
+  pub sound : (y o : ℕ) → Has ls′ rs′ count y o → Has ls₀ rs₀ have y o ⊎ Beyond v u z ls rs n y o
+  pub kept : (y o : ℕ) → Has ls₀ rs₀ have y o → Covered ls′ rs′ count y o
   pub whole : (e j x k : ℕ) → Moves v labels many ls n e j x k → at ≤ slot e j → slot e j < slot from i
-      → Has ls′ rs′ count (toOf v k) (stepWord u z (getD rs e 0) (labelOf v k) (toOf v k))
+      → Covered ls′ rs′ count (toOf v k) (stepWord u z (getD rs e 0) (labelOf v k) (toOf v k))
 
-module _ (v u : View) (z labels : List ℕ) (many : ℕ) (ls rs : List ℕ) (n at : ℕ) where
-  pub filling-start : (ls′ rs′ : List ℕ) (i from : ℕ) → Room ls′ rs′ 0 → i ≡ at / 128 → from ≡ at % 128 → Filling v u z labels many ls rs n at ls′ rs′ 0 i from
-  filling-start ls′ rs′ i from r di df = record {
+module _ (v u : View) (z labels : List ℕ) (many : ℕ) (ls rs : List ℕ) (n at : ℕ) (ls₀ rs₀ : List ℕ) (have : ℕ) where
+  pub filling-start : (i from : ℕ) → Room ls₀ rs₀ have → i ≡ at / 128 → from ≡ at % 128 → Filling v u z labels many ls rs n at ls₀ rs₀ have ls₀ rs₀ have i from
+  filling-start i from r di df = record {
     room = r;
     begun = omega arith;
     few = omega arith;
     fresh = λ _. refl;
-    sound = λ y o h. absurd (omega (arith, h .below));
+    sound = λ y o h. inl h;
+    kept = covered-by-has ls₀ rs₀ have;
     whole = λ e j x k m a b. absurd (omega arith);
   }
 
-  module _ (ls′ rs′ : List ℕ) (count i from : ℕ) (f : Filling v u z labels many ls rs n at ls′ rs′ count i from) (room : n ≤ 128) where
-    pub filling-end : many ≤ i → (r : Part) → r .count ≡ count → r .next ≡ 128 * many → Filled v u z labels many ls rs n at ls′ rs′ r
+  module _ (ls′ rs′ : List ℕ) (count i from : ℕ) (f : Filling v u z labels many ls rs n at ls₀ rs₀ have ls′ rs′ count i from) (room : n ≤ 128) where
+    pub filling-end : many ≤ i → (r : Part) → r .count ≡ count → r .next ≡ 128 * many → Filled v u z labels many ls rs n at ls₀ rs₀ have ls′ rs′ r
     filling-end l r dc dn = record {
       room = rw dc (f .room);
       sound = rw dc (f .sound);
+      kept = rw dc (f .kept);
       whole = λ e j x k m a b. rw dc (f .whole e j x k m a (omega (arith, m .class, m .label)));
-      further = λ m. omega arith;
+      further = λ _ m. omega arith;
       most = omega arith;
     }
 
     module _ (here there : ℕ) (wl : Unites ls n here) (wr : Unites rs n there) (rows rows₁ rows₂ : List ℕ) (a : ℕ) (da : a ≡ getD labels i 0)
         (fa : Rowed v here a 0 rows rows₁) (fb : Rowed u there a 64 rows₁ rows₂) (l : i < many)
         (ls″ rs″ : List ℕ) (p : Stretch) (w : Stretched z rows₂ ls rs n from ls′ rs′ count ls″ rs″ p) where
-      label-sound : (y o : ℕ) → Has ls″ rs″ (p .count) y o → Beyond v u z ls rs n y o
+      label-sound : (y o : ℕ) → Has ls″ rs″ (p .count) y o → Has ls₀ rs₀ have y o ⊎ Beyond v u z ls rs n y o
       unfolding stepWord
       label-sound y o h =
           ⊎-elim (λ h. f .sound y o h)
           (λ (e, b, i, q).
           let t = image-out v (getD ls e 0) a y (h .cell) (rw (cells-are v u here there a rows rows₁ rows₂ fa fb ls n e wl b) at i) in
-          record {
+          inr (record {
             cell = t .node;
             word = getD rs e 0;
             link = t .link;
             has = record { class = e; below = b; cell = t .low; inside = t .inside; word = refl };
             leads = record { leaves = t .leaves; to = t .to; word = rw (t .label) (rw (set-is v u here there a rows rows₁ rows₂ fa fb rs n e wr b) at q) };
-          })
+          }))
           (w .sound y o h)
+
+      -- what was covered before this label is covered after it
+      later : (y o : ℕ) → Covered ls′ rs′ count y o → Covered ls″ rs″ (p .count) y o
+      later = covered-trans ls′ rs′ count ls″ rs″ (p .count) (w .kept)
+
+      label-kept : (y o : ℕ) → Has ls₀ rs₀ have y o → Covered ls″ rs″ (p .count) y o
+      label-kept y o h = later y o (f .kept y o h)
 
       module _ (o : Opened (v .starts) (v .to)) where
         -- the tips by this label and the classes from `from` up to p .upto
         label-whole : (e x k : ℕ) → Moves v labels many ls n e i x k → from ≤ e → e < p .upto
-            → Has ls″ rs″ (p .count) (toOf v k) (stepWord u z (getD rs e 0) (labelOf v k) (toOf v k))
+            → Covered ls″ rs″ (p .count) (toOf v k) (stepWord u z (getD rs e 0) (labelOf v k) (toOf v k))
         unfolding stepWord
         label-whole e x k m b c =
             let q : labelOf v k ≡ a = m .named ∙ sym da in
@@ -521,30 +378,32 @@ module _ (v u : View) (z labels : List ℕ) (many : ℕ) (ls rs : List ℕ) (n a
             (w .whole e (toOf v k) b c (leaves-low v o x k (m .cell) (m .leaves))
             (rw (cells-are v u here there a rows rows₁ rows₂ fa fb ls n e wl (m .class), ← q) (image-in v o x k (m .cell) (m .leaves) (getD ls e 0) (m .inside))))
 
-        -- what was there before is kept
+        -- and those by the labels and classes passed before
         whole-upto : (e j x k : ℕ) → Moves v labels many ls n e j x k → at ≤ slot e j → slot e j < slot from i ⊎ ((j ≡ i) × (from ≤ e) × (e < p .upto))
-            → Has ls″ rs″ (p .count) (toOf v k) (stepWord u z (getD rs e 0) (labelOf v k) (toOf v k))
-        whole-upto e j x k m b h = ⊎-elim (λ s. w .kept _ _ (f .whole e j x k m b s)) (λ (q, s, t). label-whole e x k (rw q at m) s t) h
+            → Covered ls″ rs″ (p .count) (toOf v k) (stepWord u z (getD rs e 0) (labelOf v k) (toOf v k))
+        whole-upto e j x k m b h = ⊎-elim (λ s. later _ _ (f .whole e j x k m b s)) (λ (q, s, t). label-whole e x k (rw q at m) s t) h
 
-        pub filling-full : p .full ≡ true → (r : Part) → r .count ≡ p .count → r .next ≡ 128 * i + p .upto → Filled v u z labels many ls rs n at ls″ rs″ r
+        pub filling-full : p .full ≡ true → (r : Part) → r .count ≡ p .count → r .next ≡ 128 * i + p .upto → Filled v u z labels many ls rs n at ls₀ rs₀ have ls″ rs″ r
         filling-full t r dn dx = record {
           room = rw dn (w .room);
           sound = rw dn label-sound;
+          kept = rw dn label-kept;
           whole = λ e j x k m b c. rw dn (whole-upto e j x k m b (parts e j (m .class) (rw dx at c)));
-          further = λ _. ⊎-elim (λ s. omega (arith, f .begun)) (λ s. ⊎-elim (λ q. absurd (omega (arith, f .fresh (sym q)))) (λ b. omega (arith, w .onward)) (eq-or-lt-of-le (f .begun))) (w .full t .1);
+          further = λ c _. ⊎-elim (λ s. omega (arith, f .begun)) (λ s. ⊎-elim (λ q. absurd (omega (arith, f .fresh (sym q)))) (λ b. omega (arith, w .onward)) (eq-or-lt-of-le (f .begun))) (w .full t .1);
           most = omega (arith, w .full t .0);
         }
           where
             parts : (e j : ℕ) → e < n → slot e j < slot (p .upto) i → slot e j < slot from i ⊎ ((j ≡ i) × (from ≤ e) × (e < p .upto))
             parts e j c s = ⊎-elim (λ b. inl b) (λ b. inr (omega (arith, w .full t .0, f .few), omega (arith, w .full t .0, f .few), omega (arith, w .full t .0, f .few))) (or-not (slot e j) (slot from i))
 
-        pub filling-next : p .full ≡ false → Filling v u z labels many ls rs n at ls″ rs″ (p .count) (i + 1) 0
+        pub filling-next : p .full ≡ false → Filling v u z labels many ls rs n at ls₀ rs₀ have ls″ rs″ (p .count) (i + 1) 0
         filling-next t = record {
           room = w .room;
           begun = omega (arith, f .begun, f .few);
           few = omega arith;
           fresh = λ q. absurd (omega (arith, f .begun, f .few));
           sound = label-sound;
+          kept = label-kept;
           whole = λ e j x k m b c. whole-upto e j x k m b (parts e j (m .class) c);
         }
           where

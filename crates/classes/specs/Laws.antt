@@ -9,12 +9,12 @@ use native.Mathlib.Omega.{arith}
 use lib.ListN.{length, getD}
 use Rattle.theory.specs.Tests.{any-iff, and-iff, test-eq}
 use Rattle.theory.specs.Path.{Hop}
-use Rattle.words.specs.Words.{bit}
-use Rattle.words.specs.Laws.{wordOf-ext}
+use Rattle.words.specs.Words.{bit, Inside}
+use Rattle.words.specs.Laws.{bit-and, wordOf-ext, bit-wordOf}
 use Rattle.hops.specs.Hops.{View, startOf, labelOf, toOf, total, hopAt, hopsFrom, hopsOf, Opened}
 use Rattle.hops.specs.Sets.{among, reached, spread, imageOf}
 use Rattle.hops.specs.Laws.{among-iff, bit-reached, bit-spread}
-use Rattle.classes.specs.Paths.{Leaves, Trail}
+use Rattle.classes.specs.Paths.{Leaves, Trail, stepWord, endsOver}
 
 -- rows that agree on the nodes of a set have the same union there
 pub spread-agrees : (f g : ℕ → ℕ) (w : ℕ) → ((x : ℕ) → x < 64 → So (bit w x) → f x ≡ g x) → spread f w ≡ spread g w
@@ -24,6 +24,29 @@ spread-agrees f g w h =
     test-eq _ _
     (λ e. let (x, m, (i, j)) = simp (any-iff, and-iff) at e in any-iff 64 _ .1 (x, m, and-iff _ _ .1 (i, rw (← h x m i) j)))
     (λ e. let (x, m, (i, j)) = simp (any-iff, and-iff) at e in any-iff 64 _ .1 (x, m, and-iff _ _ .1 (i, rw (h x m i) j))))
+
+-- ---- of a set inside of another, what it leads to is inside of what the other leads to
+-- the union of rows
+pub spread-inside : (f : ℕ → ℕ) (w w′ : ℕ) → Inside w w′ → Inside (spread f w) (spread f w′)
+unfolding spread
+spread-inside f w w′ h = record {
+  each = λ y e.
+      let (l, (x, m, (i, j))) = simp (bit-wordOf, and-iff, any-iff) at e in
+      simp (bit-wordOf, and-iff, any-iff) (l, (x, m, (h .each x i, j)));
+}
+
+-- a step
+pub step-inside : (u : View) (z : List ℕ) (w w′ a y : ℕ) → Inside w w′ → Inside (stepWord u z w a y) (stepWord u z w′ a y)
+unfolding stepWord
+step-inside u z w w′ a y h = record {
+  each = λ i e. let (p, q) = simp (bit-and, and-iff) at e in simp (bit-and, and-iff) (spread-inside _ w w′ h .each i p, q);
+}
+
+-- a path
+pub over-inside : (v u : View) (z : List ℕ) (p : List ℕ) (w w′ : ℕ) → Inside w w′ → Inside (endsOver v u z w p) (endsOver v u z w′ p)
+unfolding endsOver
+over-inside v u z [] w w′ h = h
+over-inside v u z (k ∷ p) w w′ h = over-inside v u z p _ _ (step-inside u z w w′ (labelOf v k) (toOf v k) h)
 
 module _ (v : View) where
   -- the hops are those of the links

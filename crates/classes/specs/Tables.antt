@@ -1,6 +1,4 @@
--- Tables of classes of paths. Of a path only its tip counts further on: the node where it ends, and the set of the ends of the paths of the other
--- graph that are alike to it. A class is a set of paths with one such set; a table is n classes in two lists of words: the nodes where the
--- paths of class e end, and the set.
+-- The tables of tips one link beyond the tips of a table.
 use mathlib.Core.Bool.{Bool, So, true, false, _&&_}
 use mathlib.Core.Logic.{_⊎_}
 use mathlib.Core.Path.{_≡_}
@@ -12,19 +10,11 @@ use lib.ListN.{length, getD}
 use Rattle.words.specs.Words.{bit}
 use Rattle.hops.specs.Hops.{View, startOf, labelOf, toOf, total, hopsOf}
 use Rattle.hops.specs.Sets.{reached, spread, rowAt}
-use Rattle.classes.specs.declared.Grown.{Grown}
+use Rattle.tables.specs.Tips.{Has, Covered, Room}
 use Rattle.classes.specs.declared.Stretch.{Stretch}
 use Rattle.classes.specs.declared.Part.{Part}
 use Rattle.classes.specs.declared.Origin.{Origin}
 use Rattle.classes.specs.Paths.{Leaves, stepWord}
-
--- The table has the tip (x, w).
-pub record Has (ls rs : List ℕ) (n x w : ℕ) : Type 0 where
-  pub class : ℕ
-  pub below : class < n
-  pub cell : x < 64
-  pub inside : So (bit (getD ls class 0) x)
-  pub word : getD rs class 0 ≡ w
 
 -- Link k leads from the tip (x, w) to the tip (y, o).
 pub record Leads (v u : View) (z : List ℕ) (x w k y o : ℕ) : Type 0 where
@@ -40,32 +30,10 @@ pub record Beyond (v u : View) (z ls rs : List ℕ) (n y o : ℕ) : Type 0 where
   pub has : Has ls rs n cell word
   pub leads : Leads v u z cell word link y o
 
--- Two lists have room for a table.
-pub record Room (ls rs : List ℕ) (n : ℕ) : Type 0 where
-  pub left : length ls ≡ 128
-  pub right : length rs ≡ 128
-  pub few : n ≤ 128
-
--- One of n classes with the set w, or n.
+-- One of n numbers that is w, or n.
 pub record Placed (rs : List ℕ) (n w e : ℕ) : Type 0 where
   pub most : e ≤ n
   pub there : e < n → getD rs e 0 ≡ w
-
--- The table has what it had, and the tip (x, w).
-pub record Added (ls rs : List ℕ) (n x w : ℕ) (ls′ rs′ : List ℕ) (n′ : ℕ) : Type 0 where
-  pub room : Room ls′ rs′ n′
-  pub few : n′ ≤ n + 1
-  pub sound : (y o : ℕ) → Has ls′ rs′ n′ y o → Has ls rs n y o ⊎ ((y ≡ x) × (o ≡ w))
-  pub kept : (y o : ℕ) → Has ls rs n y o → Has ls′ rs′ n′ y o
-  pub new : Has ls′ rs′ n′ x w
-
--- The table has what it had, and the tips (y, s cut with row y) of the nodes y of a set; of some of them only, if it is full.
-pub record Grew (z ls rs : List ℕ) (n cells s : ℕ) (ls′ rs′ : List ℕ) (g : Grown) : Type 0 where
-  pub room : Room ls′ rs′ (g .count)
-  pub full : g .full ≡ true → 64 < n
-  pub sound : (y o : ℕ) → Has ls′ rs′ (g .count) y o → Has ls rs n y o ⊎ (So (bit cells y) × (bitAnd s (getD z y 0) ≡ o))
-  pub kept : (y o : ℕ) → Has ls rs n y o → Has ls′ rs′ (g .count) y o
-  pub whole : g .full ≡ false → (y : ℕ) → y < 64 → So (bit cells y) → Has ls′ rs′ (g .count) y (bitAnd s (getD z y 0))
 
 -- Every label of a link is one of the first `many` of the list.
 pub record Named (starts labels list : List ℕ) (many : ℕ) : Type 0 where
@@ -90,13 +58,14 @@ cellsBy rows ls e = spread (rowAt rows 0) (getD ls e 0)
 abbrev pub setBy : List ℕ → List ℕ → ℕ → ℕ
 setBy rows rs e = spread (rowAt rows 1) (getD rs e 0)
 
--- The table has what it had, and the tips that the rows of a label lead to from the classes from `from` up to r .upto.
+-- The table has nothing but what it had and tips that the rows of a label lead to. It covers what it had, and the tips from the classes from
+-- `from` up to r .upto.
 pub record Stretched (z rows ls rs : List ℕ) (n from : ℕ) (ls₀ rs₀ : List ℕ) (count : ℕ) (ls′ rs′ : List ℕ) (r : Stretch) : Type 0 where
   pub room : Room ls′ rs′ (r .count)
   pub sound : (y o : ℕ) → Has ls′ rs′ (r .count) y o
       → Has ls₀ rs₀ count y o ⊎ ((e : ℕ) × (e < n) × So (bit (cellsBy rows ls e) y) × (bitAnd (setBy rows rs e) (getD z y 0) ≡ o))
-  pub kept : (y o : ℕ) → Has ls₀ rs₀ count y o → Has ls′ rs′ (r .count) y o
-  pub whole : (e y : ℕ) → from ≤ e → e < r .upto → y < 64 → So (bit (cellsBy rows ls e) y) → Has ls′ rs′ (r .count) y (bitAnd (setBy rows rs e) (getD z y 0))
+  pub kept : (y o : ℕ) → Has ls₀ rs₀ count y o → Covered ls′ rs′ (r .count) y o
+  pub whole : (e y : ℕ) → from ≤ e → e < r .upto → y < 64 → So (bit (cellsBy rows ls e) y) → Covered ls′ rs′ (r .count) y (bitAnd (setBy rows rs e) (getD z y 0))
   pub onward : from ≤ r .upto
   pub full : r .full ≡ true → (r .upto < n) × ((from < r .upto) ⊎ (64 < count))
   pub all : r .full ≡ false → n ≤ r .upto
@@ -114,13 +83,15 @@ pub record Moves (v : View) (labels : List ℕ) (many : ℕ) (ls : List ℕ) (n 
 abbrev pub slot : ℕ → ℕ → ℕ
 slot e i = 128 * i + e
 
--- Of the tips one link beyond a table, the part has those by the classes and labels from place `at` up to `next`, which is further on.
-pub record Filled (v u : View) (z labels : List ℕ) (many : ℕ) (ls rs : List ℕ) (n at : ℕ) (ls′ rs′ : List ℕ) (p : Part) : Type 0 where
+-- The part has nothing but what it had and tips one link beyond the table. It covers what it had, and the tips by the classes and labels from
+-- place `at` up to p .next, which is further on where there was room.
+pub record Filled (v u : View) (z labels : List ℕ) (many : ℕ) (ls rs : List ℕ) (n at : ℕ) (ls₀ rs₀ : List ℕ) (count : ℕ) (ls′ rs′ : List ℕ) (p : Part) : Type 0 where
   pub room : Room ls′ rs′ (p .count)
-  pub sound : (y o : ℕ) → Has ls′ rs′ (p .count) y o → Beyond v u z ls rs n y o
+  pub sound : (y o : ℕ) → Has ls′ rs′ (p .count) y o → Has ls₀ rs₀ count y o ⊎ Beyond v u z ls rs n y o
+  pub kept : (y o : ℕ) → Has ls₀ rs₀ count y o → Covered ls′ rs′ (p .count) y o
   pub whole : (e i x k : ℕ) → Moves v labels many ls n e i x k → at ≤ slot e i → slot e i < p .next
-      → Has ls′ rs′ (p .count) (toOf v k) (stepWord u z (getD rs e 0) (labelOf v k) (toOf v k))
-  pub further : at < 128 * many → at < p .next
+      → Covered ls′ rs′ (p .count) (toOf v k) (stepWord u z (getD rs e 0) (labelOf v k) (toOf v k))
+  pub further : count ≤ 64 → at < 128 * many → at < p .next
   pub most : p .next ≤ 128 * many
 
 -- A link with the label a to node t leads from a tip with the set w to the tip (y, o).

@@ -1,11 +1,12 @@
-// Paths from a cell of one book, each with the paths of the other book that are alike to it, taken together in classes. A table of n classes
-// is two lists: lefts[e] has the cells where the paths of class e end, rights[e] the ends of the paths of the other book alike to each of them.
+// Paths from a cell of one book, each with the paths of the other book that are alike to it, by their tips, in tables: where they lead by one
+// link more, and which link leads to a tip.
 ghost use mathlib.Core.Path.{_≡_};
 ghost use Prim.Native.Nat.{_*_, _≤_, _<_};
 ghost use lib.ListN.{length, getD};
 ghost use Rattle.hops.specs.Hops.{viewOf, total, Opened};
 ghost use Rattle.classes.specs.Paths.{stepWord};
-ghost use Rattle.classes.specs.Tables.{Beyond, Room, Placed, Added, Grew, Named, Unites, Rowed, Stretched, Filled, leading, Joins, Comes};
+ghost use Rattle.tables.specs.Tips.{Room};
+ghost use Rattle.classes.specs.Tables.{Beyond, Placed, Named, Unites, Rowed, Stretched, Filled, leading, Joins, Comes};
 
 // The cells that a link with the label leads to from a cell of w, of those related to y.
 pub fn step(
@@ -22,92 +23,6 @@ pub fn step(
 {
     let next = hops::image(starts, labels, to, w, label);
     words::meet(next, z[y as usize])
-}
-
-// One of n classes with the set w, or n. It looks at place `near` first.
-fn place(rights: &[u64; 128], n: usize, near: usize, w: u64) -> usize
-    requires { ⌜ n ≤ 128 ⌝ }
-    ensures { λ r. ⌜ Placed (now (rights .entry)) n w r ⌝ }
-{
-    if near < n {
-        if rights[near] == w {
-            return near;
-        }
-    }
-    let mut e = 0;
-    while e < n {
-        if rights[e] == w {
-            return e;
-        }
-        e += 1;
-    }
-    e
-}
-
-// How many classes a table has, and the place of the one that a tip was put into.
-pub struct Spot {
-    pub count: usize,
-    pub place: usize,
-}
-
-// Puts the tip (x, w) into a table of n classes that has room.
-fn put(
-    lefts: &mut [u64; 128],
-    rights: &mut [u64; 128],
-    n: usize,
-    near: usize,
-    x: u8,
-    w: u64,
-) -> Spot
-    requires { ⌜ Room (now lefts) (now rights) n × (n < 128) × (x < 64) ⌝ }
-    ensures { λ r. ⌜ Added (now (lefts .entry)) (now (rights .entry)) n x w (now (lefts .exit)) (now (rights .exit)) (r .count) ⌝ }
-{
-    let e = place(rights, n, near, w);
-    if e < n {
-        lefts[e] = words::with(lefts[e], x);
-        return Spot { count: n, place: e };
-    }
-    lefts[n] = words::only(x);
-    rights[n] = w;
-    Spot {
-        count: n + 1,
-        place: n,
-    }
-}
-
-// How many classes a table has, and whether it was too full for what was put into it.
-pub struct Grown {
-    pub count: usize,
-    pub full: bool,
-}
-
-// Puts the tips (y, s cut with row y of z) of the cells y of a set into a table, as long as there is room.
-fn grow(
-    z: &[u64; 64],
-    lefts: &mut [u64; 128],
-    rights: &mut [u64; 128],
-    n: usize,
-    cells: u64,
-    s: u64,
-) -> Grown
-    requires { ⌜ Room (now lefts) (now rights) n ⌝ }
-    ensures { λ r. ⌜ Grew (now (z .entry)) (now (lefts .entry)) (now (rights .entry)) n cells s (now (lefts .exit)) (now (rights .exit)) r ⌝ }
-{
-    let mut count = n;
-    let mut near = 0;
-    let mut left = cells;
-    while left != 0 {
-        if count == 128 {
-            return Grown { count, full: true };
-        }
-        let y = words::lowest(left);
-        let o = words::meet(s, z[y as usize]);
-        let p = put(lefts, rights, count, near, y, o);
-        count = p.count;
-        near = p.place;
-        left = words::without(left, y);
-    }
-    Grown { count, full: false }
 }
 
 // The labels of a book's links, each once.
@@ -215,7 +130,7 @@ fn fill_label(
     while e < n {
         let cells = hops::passing(rows, 0, lefts[e]);
         let s = hops::passing(rows, 1, rights[e]);
-        let g = grow(z, ends, sets, total, cells, s);
+        let g = tables::grow(z, ends, sets, total, cells, s);
         total = g.count;
         if g.full {
             return Stretch {
@@ -239,8 +154,8 @@ pub struct Part {
     pub next: usize,
 }
 
-// Fills a table with the tips one link beyond those of another, from the place `at` on, until it is full or all are in it. The place of label
-// number i and class e is 128 × i + e.
+// Puts the tips one link beyond those of a table, from the place `at` on, into a table of `have` classes, until it is full or covers all. The
+// place of label number i and class e is 128 × i + e.
 pub fn fill(
     sa: &[u16; 65],
     la: &[u16; 512],
@@ -257,14 +172,15 @@ pub fn fill(
     at: usize,
     ends: &mut [u64; 128],
     sets: &mut [u64; 128],
+    have: usize,
 ) -> Part
-    requires { ⌜ Opened (now sa) (now ta) × Opened (now sb) (now tb) × (many ≤ 512) × (n ≤ 128) × (at ≤ 128 * many) × Room (now ends) (now sets) 0 ⌝ }
-    ensures { λ r. ⌜ Filled (viewOf (now (sa .entry)) (now (la .entry)) (now (ta .entry))) (viewOf (now (sb .entry)) (now (lb .entry)) (now (tb .entry))) (now (z .entry)) (now (labels .entry)) many (now (lefts .entry)) (now (rights .entry)) n at (now (ends .exit)) (now (sets .exit)) r ⌝ }
+    requires { ⌜ Opened (now sa) (now ta) × Opened (now sb) (now tb) × (many ≤ 512) × (n ≤ 128) × (at ≤ 128 * many) × Room (now ends) (now sets) have ⌝ }
+    ensures { λ r. ⌜ Filled (viewOf (now (sa .entry)) (now (la .entry)) (now (ta .entry))) (viewOf (now (sb .entry)) (now (lb .entry)) (now (tb .entry))) (now (z .entry)) (now (labels .entry)) many (now (lefts .entry)) (now (rights .entry)) n at (now (ends .entry)) (now (sets .entry)) have (now (ends .exit)) (now (sets .exit)) r ⌝ }
 {
     let here = union_of(lefts, n);
     let there = union_of(rights, n);
     let mut rows = [0u64; 128];
-    let mut count = 0;
+    let mut count = have;
     let mut i = at / 128;
     let mut from = at % 128;
     while i < many {

@@ -18,14 +18,14 @@ use Rattle.words.specs.Laws.{bit-and, bit-zero, bit-without}
 use Rattle.hops.specs.Sets.{spread, rowAt}
 use Rattle.hops.specs.Laws.{bit-spread}
 use Rattle.classes.specs.declared.Origin.{Origin}
-use Rattle.classes.specs.Tables.{Has}
+use Rattle.tables.specs.Tips.{Has}
 use Rattle.routes.specs.declared.Wanted.{Wanted}
 use Rattle.routes.specs.declared.Clash.{Clash}
 use Rattle.routes.specs.declared.Tail.{Tail}
 use Rattle.routes.specs.declared.Found.{Found}
 use Rattle.routes.specs.Pairs.{kindOf, failing, fault, wantedOf, missing, classFault, clashing, Clashed, Partner}
 use Rattle.routes.specs.Tails.{tailAt, Prepended, Meeting, Picked, Standing, Met}
-use Rattle.routes.specs.Laws.{kind-none, kind-some}
+use Rattle.routes.specs.Laws.{kind-fewer, kind-some}
 
 -- ---- what a class asks
 pub asks-are : (ea eb : List ℕ) (t l r e a : ℕ) → e ≡ spread (rowAt ea t) l → a ≡ spread (rowAt eb t) r
@@ -181,13 +181,6 @@ module _ (ea eb : List ℕ) (t l w m o : ℕ) where
           both p =
               bit-and (spread (rowAt ea t) l) m y
               ∙ and-iff _ _ .1 (bit-spread (rowAt ea t) l y ly ∙ any-iff 64 _ .1 (x, lx, and-iff _ _ .1 (i, p)), j)
-
--- what may be left out of a kind
-kind-fewer : (p q p′ q′ : Bool) → kindOf p q ≡ 0 → (So p′ → So p) → (So q′ → So q) → kindOf p′ q′ ≡ 0
-unfolding kindOf
-kind-fewer p q true q′ e f g = never (sym (kind-none p q e .0) ∙ f refl)
-kind-fewer p q false true e f g = never (sym (kind-none p q e .1) ∙ g refl)
-kind-fewer p q false false e f g = refl
 
 -- the kind of a class that misses, where its tips fail by that kind
 kind-stays : (p q p′ q′ : Bool) (k : ℕ) → k ≡ kindOf p q → (k ≡ 0 → ⊥) → (So p′ → So p) → (k ≡ 5 → So p → So p′) → (k ≡ 6 → So q → So q′) → k ≡ kindOf p′ q′

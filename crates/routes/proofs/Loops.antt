@@ -5,24 +5,28 @@ use mathlib.Core.List.{List, [], _∷_}
 use Prim.Native.Nat.{ℕ, _-_, _*_, _^_, _≤_, _<_}
 use native.Mathlib.Nat.{pos-of-ne-zero}
 use native.Mathlib.Omega.{arith}
-use borrow.Author.Tests.{eqb-true, eq-eqb}
 use lib.ListN.{length, getD, set}
-use lib.Seq.{getD-set-same}
 use Rattle.theory.specs.Tests.{le-or-lt}
-use Rattle.words.specs.Words.{bit}
-use Rattle.words.specs.Laws.{bit-pow}
+use Rattle.words.specs.Words.{Inside}
 use Rattle.hops.specs.Hops.{View, labelOf, toOf, Opened}
 use Rattle.classes.specs.declared.Part.{Part}
 use Rattle.classes.specs.declared.Origin.{Origin}
 use Rattle.classes.specs.Paths.{Trail, endOf, stepWord, endsOver}
-use Rattle.classes.specs.Tables.{Has, Beyond, Named, Moves, slot, Filled, Comes}
-use Rattle.classes.specs.Laws.{leaves-below}
+use Rattle.tables.specs.Tips.{Has}
+use Rattle.tables.specs.Laws.{inside-refl, one-has, one-only}
+use Rattle.classes.specs.Tables.{Beyond, Named, Moves, slot, Filled, Comes}
+use Rattle.classes.specs.Laws.{leaves-below, over-inside}
 use Rattle.routes.specs.declared.Route.{Route}
 use Rattle.routes.specs.declared.Tail.{Tail}
 use Rattle.routes.specs.declared.Found.{Found}
 use Rattle.routes.specs.declared.Pair.{Pair}
 use Rattle.routes.specs.Pairs.{fault, alone, failure, linksIn, Shaped, Sought}
+use Rattle.routes.specs.Laws.{fault-inside}
 use Rattle.routes.specs.Tails.{Prepended, Standing, Met, Runs, Tailed, between, Searched}
+
+-- What holds of a tip holds of each tip that it covers.
+abbrev Passes : (ℕ → ℕ → Type 0) → Type 0
+Passes P = (x w w′ : ℕ) → Inside w w′ → P x w → P x w′
 
 -- P holds of the tip of every path of d links from a tip of the table.
 pub record Clears (v u : View) (z ls rs : List ℕ) (n d : ℕ) (P : ℕ → ℕ → Type 0) : Type 0 where
@@ -38,11 +42,13 @@ module _ (v u : View) (z labels : List ℕ) (many : ℕ) (ls rs : List ℕ) (n d
   below-start = record { each = λ e i x k s m l. absurd (omega arith) }
 
   module _ (at : ℕ) (b : Below v u z labels many ls rs n at d P) where
-    below-next : (ls′ rs′ : List ℕ) (p : Part) → Filled v u z labels many ls rs n at ls′ rs′ p → Clears v u z ls′ rs′ (p .count) d P
-        → Below v u z labels many ls rs n (p .next) d P
-    below-next ls′ rs′ p f c = record {
+    below-next : Passes P → (ls₀ rs₀ ls′ rs′ : List ℕ) (p : Part) → Filled v u z labels many ls rs n at ls₀ rs₀ 0 ls′ rs′ p
+        → Clears v u z ls′ rs′ (p .count) d P → Below v u z labels many ls rs n (p .next) d P
+    below-next on ls₀ rs₀ ls′ rs′ p f c = record {
       each = λ e i x k s m l t h. ⊎-elim
-          (λ o. c .each _ _ s (record { has = f .whole e i x k m o l; trail = t; long = h }))
+          (λ o.
+          let g = f .whole e i x k m o l in
+          on _ _ _ (over-inside v u z s _ _ (g .inside)) (c .each _ _ s (record { has = g .has; trail = t; long = h })))
           (λ o. b .each e i x k s m o t h)
           (le-or-lt at (slot e i));
     }
@@ -60,13 +66,14 @@ module _ (v u : View) (z labels : List ℕ) (many : ℕ) (ls rs : List ℕ) (n d
             rw (← h .word) (b .each (h .class) i x k s m (omega (arith, h .below)) r (omega arith))
 
 -- ---- a path from a part
-module _ (v u : View) (z labels : List ℕ) (many : ℕ) (ls rs : List ℕ) (n at : ℕ) (ls′ rs′ : List ℕ) (p : Part) (f : Filled v u z labels many ls rs n at ls′ rs′ p)
+module _ (v u : View) (z labels : List ℕ) (many : ℕ) (ls rs : List ℕ) (n at : ℕ) (ls₀ rs₀ ls′ rs′ : List ℕ) (p : Part)
+    (f : Filled v u z labels many ls rs n at ls₀ rs₀ 0 ls′ rs′ p)
     (rest : ℕ) (t : Tail) (h : Tailed v ls′ rs′ (p .count) (rest - 1) t) where
   pub tail-low : t .cell < 64
   tail-low = h .runs .has .cell
 
   pub tail-beyond : Beyond v u z ls rs n (t .cell) (t .word)
-  tail-beyond = f .sound _ _ (h .runs .has)
+  tail-beyond = ⊎-elim (λ i. absurd (omega (arith, i .below))) (λ b. b) (f .sound _ _ (h .runs .has))
 
   pub tail-short : rest ≤ 4 → (rest ≡ 0 → ⊥) → t .path .len < 4
   tail-short l pos = omega (arith, h .shaped .long, pos-of-ne-zero pos)
@@ -161,12 +168,12 @@ module _ (v u : View) (z ea eb pl pr : List ℕ) (pn : ℕ) (ql qr : List ℕ) (
     firsts-end j few b =
         first-cleared v u z ea eb pl pr pn ql qr qn rest j f e (below-end v u z labels many pl pr pn (rest - 1) _ at b o names few l rest refl pos)
 
-  module _ (at : ℕ) (ls rs : List ℕ) (p : Part) (f : Found) (rest : ℕ) where
-    module _ (i : ℕ) (g : Filled v u z labels many ql qr qn at ls rs p) (h : Searched v u z ea eb pl pr pn ls rs (p .count) i (rest - 1) f) where
+  module _ (at : ℕ) (ls₀ rs₀ ls rs : List ℕ) (p : Part) (f : Found) (rest : ℕ) where
+    module _ (i : ℕ) (g : Filled v u z labels many ql qr qn at ls₀ rs₀ 0 ls rs p) (h : Searched v u z ea eb pl pr pn ls rs (p .count) i (rest - 1) f) where
       pub seconds-next : f .kind ≡ 0 → SecondsTo v u z ea eb pl pr pn ql qr qn labels many i (rest - 1) at
           → SecondsTo v u z ea eb pl pr pn ql qr qn labels many i (rest - 1) (p .next)
       seconds-next e b =
-          below-next v u z labels many ql qr qn (rest - 1) _ at b ls rs p g (record { each = λ y o q r x w p a. h .none e x w p y o q a r })
+          below-next v u z labels many ql qr qn (rest - 1) _ at b (λ y o o′ k h x w p a. fault-inside ea eb _ _ _ y o o′ (inside-refl _) k (h x w p a)) ls₀ rs₀ ls rs p g (record { each = λ y o q r x w p a. h .none e x w p y o q a r })
 
       pub second-found : (n : f .kind ≡ 0 → ⊥) (pos : rest ≡ 0 → ⊥) (s : Origin) → Comes v u z ql qr qn (f .second .cell) (f .second .word) s → (r : Tail)
           → Prepended s (f .second) r → (f′ : Found) → f′ .kind ≡ f .kind → f′ .first ≡ f .first → f′ .second ≡ r
@@ -180,11 +187,11 @@ module _ (v u : View) (z ea eb pl pr : List ℕ) (pn : ℕ) (ql qr : List ℕ) (
             none = λ e. absurd (n e);
           })
 
-    module _ (j : ℕ) (g : Filled v u z labels many pl pr pn at ls rs p) (h : Searched v u z ea eb ls rs (p .count) ql qr qn (rest - 1) j f) where
+    module _ (j : ℕ) (g : Filled v u z labels many pl pr pn at ls₀ rs₀ 0 ls rs p) (h : Searched v u z ea eb ls rs (p .count) ql qr qn (rest - 1) j f) where
       pub firsts-next : f .kind ≡ 0 → FirstsTo v u z ea eb pl pr pn ql qr qn labels many j (rest - 1) at
           → FirstsTo v u z ea eb pl pr pn ql qr qn labels many j (rest - 1) (p .next)
       firsts-next e b =
-          below-next v u z labels many pl pr pn (rest - 1) _ at b ls rs p g (record { each = λ x w p r y o q a. h .none e x w p y o q r a })
+          below-next v u z labels many pl pr pn (rest - 1) _ at b (λ x w w′ k h y o q a. fault-inside ea eb x w w′ _ _ _ k (inside-refl _) (h y o q a)) ls₀ rs₀ ls rs p g (record { each = λ x w p r y o q a. h .none e x w p y o q r a })
 
       pub first-found : (n : f .kind ≡ 0 → ⊥) (pos : rest ≡ 0 → ⊥) (s : Origin) → Comes v u z pl pr pn (f .first .cell) (f .first .word) s → (r : Tail)
           → Prepended s (f .first) r → (f′ : Found) → f′ .kind ≡ f .kind → f′ .first ≡ r → f′ .second ≡ f .second
@@ -200,28 +207,6 @@ module _ (v u : View) (z ea eb pl pr : List ℕ) (pn : ℕ) (ql qr : List ℕ) (
 
 -- ---- the table with the one tip (x, {y})
 module _ (ls rs : List ℕ) (x y a b : ℕ) (da : a ≡ 2 ^ x) (db : b ≡ 2 ^ y) (low : x < 64) (ll : length ls ≡ 128) (lr : length rs ≡ 128) where
-  root-left : getD (set ls 0 a) 0 0 ≡ 2 ^ x
-  root-left = getD-set-same ls 0 a 0 (omega arith) ∙ da
-
-  root-right : getD (set rs 0 b) 0 0 ≡ 2 ^ y
-  root-right = getD-set-same rs 0 b 0 (omega arith) ∙ db
-
-  root-has : Has (set ls 0 a) (set rs 0 b) 1 x (2 ^ y)
-  root-has = record {
-    class = 0;
-    below = omega arith;
-    cell = low;
-    inside = ap (λ (w : ℕ). bit w x) root-left ∙ bit-pow x x ∙ eq-eqb x x refl;
-    word = root-right;
-  }
-
-  root-only : (x′ w : ℕ) → Has (set ls 0 a) (set rs 0 b) 1 x′ w → (x′ ≡ x) × (w ≡ 2 ^ y)
-  root-only x′ w h =
-      let z : h .class ≡ 0 = omega (arith, h .below) in (
-        sym (eqb-true x x′ (sym (bit-pow x x′) ∙ ap (λ (v : ℕ). bit v x′) (sym root-left) ∙ rw z at (h .inside))),
-        sym (rw z at (h .word)) ∙ root-right,
-      )
-
   pub sought : (v u : View) (z ea eb : List ℕ) (i j : ℕ) (f : Found)
       → Searched v u z ea eb (set ls 0 a) (set rs 0 b) 1 (set ls 0 a) (set rs 0 b) 1 i j f
       → (r : Pair) → r .kind ≡ f .kind → r .first ≡ f .first .path → r .second ≡ f .second .path → Sought v u z ea eb x y i j r
@@ -231,12 +216,12 @@ module _ (ls rs : List ℕ) (x y a b : ℕ) (da : a ≡ 2 ^ x) (db : b ≡ 2 ^ y
         first = λ n. path (f .first) i (h .first n);
         second = λ n. path (f .second) j (h .second n);
         fails = λ n.
-            let (px, pw) = root-only _ _ (h .first n .runs .has) in
-            let (qx, qw) = root-only _ _ (h .second n .runs .has) in
+            let (px, pw) = one-only ls rs x y a b da db ll lr _ _ (h .first n .runs .has) in
+            let (qx, qw) = one-only ls rs x y a b da db ll lr _ _ (h .second n .runs .has) in
             rw (px, pw, qx, qw) at (h .fails n);
         none = λ e p q tp lp tq lq.
-            h .none e x (2 ^ y) p x (2 ^ y) q (record { has = root-has; trail = tp; long = lp }) (record { has = root-has; trail = tq; long = lq });
+            h .none e x (2 ^ y) p x (2 ^ y) q (record { has = one-has ls rs x y a b da db low ll lr; trail = tp; long = lp }) (record { has = one-has ls rs x y a b da db low ll lr; trail = tq; long = lq });
       })
     where
       path : (t : Tail) (d : ℕ) → Tailed v (set ls 0 a) (set rs 0 b) 1 d t → Shaped d (t .path) × Trail v x (linksIn (t .path))
-      path t d g = (g .shaped, rw (root-only _ _ (g .runs .has) .0) at (g .runs .trail))
+      path t d g = (g .shaped, rw (one-only ls rs x y a b da db ll lr _ _ (g .runs .has) .0) at (g .runs .trail))

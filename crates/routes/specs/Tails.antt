@@ -10,7 +10,8 @@ use Rattle.hops.specs.Hops.{View, Opened}
 use Rattle.hops.specs.Sets.{spread, rowAt}
 use Rattle.classes.specs.declared.Origin.{Origin}
 use Rattle.classes.specs.Paths.{Trail, endOf, endsOver}
-use Rattle.classes.specs.Tables.{Has, Named}
+use Rattle.tables.specs.Tips.{Has}
+use Rattle.classes.specs.Tables.{Named}
 use Rattle.routes.specs.declared.Tail.{Tail}
 use Rattle.routes.specs.declared.Found.{Found}
 use Rattle.routes.specs.Pairs.{linksIn, Shaped, fault}

@@ -188,7 +188,7 @@ fn pick(ea: &[u64; 128], kind: u8, l: u64, r: u64, m: u64, s: u64) -> Found
 }
 
 // Two tips without counterpart, one of each of two tables.
-fn two_tips(
+pub fn two_tips(
     ea: &[u64; 128],
     eb: &[u64; 128],
     pl: &[u64; 128],
@@ -258,6 +258,7 @@ fn second(
             at,
             &mut l,
             &mut r,
+            0,
         );
         let f = second(
             sa,
@@ -362,6 +363,7 @@ fn first(
             at,
             &mut l,
             &mut r,
+            0,
         );
         let f = first(
             sa,

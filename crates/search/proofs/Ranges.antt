@@ -8,6 +8,7 @@ use native.Mathlib.Omega.{arith}
 use Rattle.hops.specs.Hops.{View}
 use Rattle.routes.specs.declared.Pair.{Pair}
 use Rattle.routes.specs.Pairs.{Asked, Sought}
+use Rattle.covering.specs.Covering.{NoneFails}
 use Rattle.search.specs.Lengths.{Ready, Total, Most, Clear, Outcome, Fewest}
 
 pub asked : (sa ta sb tb : List ℕ) (x y i j : ℕ) → Ready sa ta sb tb x y → i ≤ 4 → j ≤ 4 → Asked sa ta sb tb x y i j
@@ -58,6 +59,16 @@ pub record TotalsTo (v u : View) (z ea eb : List ℕ) (x y c s : ℕ) : Type 0 w
 module _ (v u : View) (z ea eb : List ℕ) (x y c : ℕ) where
   pub totals-start : TotalsTo v u z ea eb x y c 0
   totals-start = record { each = λ k l w m. absurd (omega arith) }
+
+  -- nothing fails at all
+  pub totals-none : (r : Pair) → r .kind ≡ 0 → NoneFails v u z ea eb x y c → Fewest v u z ea eb x y c r
+  totals-none r d h = record {
+    outcome = record {
+      found = λ n. absurd (n d);
+      none = λ _ k l w. record { each = λ p q tp lp tq lq. h .each p q tp (omega (arith, w .order, w .most)) tq (omega (arith, w .most)) };
+    };
+    fewest = λ n. absurd (n d);
+  }
 
   module _ (s : ℕ) (h : TotalsTo v u z ea eb x y c s) (r : Pair) where
     pub totals-next : Outcome v u z ea eb x y (Total c s) r → r .kind ≡ 0 → TotalsTo v u z ea eb x y c (s + 1)

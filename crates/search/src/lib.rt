@@ -78,7 +78,8 @@ fn by_lengths(
     no_pair()
 }
 
-// Two paths of at most c links each, fewest in all first.
+// Two paths of at most c links each, fewest in all first. Those of less than 3 links in all are soon looked through; before the others, one
+// table may tell that there are none.
 fn by_total(
     sa: &[u16; 65],
     la: &[u16; 512],
@@ -98,6 +99,11 @@ fn by_total(
 {
     let mut s = 0u8;
     while s <= c + c {
+        if s == 3 {
+            if covering::none_fails(sa, la, ta, ea, sb, lb, tb, eb, z, x, y, c) {
+                return no_pair();
+            }
+        }
         let r = by_lengths(sa, la, ta, ea, sb, lb, tb, eb, z, x, y, c, s);
         if r.kind != 0 {
             return r;

@@ -13,7 +13,8 @@ use Rattle.theory.specs.Follow.{follow-below}
 use Rattle.theory.specs.Bisimulation.{Relation, flip, Alike, Image, Counterpart, Zig, Sides, oneSided, twoSided}
 use Rattle.theory.specs.Rounds.{follow, met, oneLink, twoPaths, zigs, zags}
 
-listed : (t : Comparison) → List·Memᴰ t comparisons
+-- every comparison is listed
+pub listed : (t : Comparison) → List·Memᴰ t comparisons
 unfolding comparisons
 listed same = List·Memᴰ·head refl
 listed differ = List·Memᴰ·tail (List·Memᴰ·head refl)

@@ -30,6 +30,14 @@ module _ (r : Graph) (z : Relation) where
       let (m, u, v) = follow-split p q b′ y s′ in
       (m, simp facts (b′, i, (j, u)), v)
 
+  -- and what follows p to a node and q from there follows both
+  pub follow-join : (p q : Path) (b m y : ℕ) → follow r z p b m ≡ true → follow r z q m y ≡ true → follow r z (p ++ q) b y ≡ true
+  unfolding follow
+  follow-join [] q b m y u v = rw (simp facts at u) v
+  follow-join (h ∷ p) q b m y u v =
+      let (b′, i, (j, u′)) = simp facts at u in
+      simp facts (b′, i, (j, follow-join p q b′ m y u′ v))
+
   -- what follows a path from a node is a node
   pub follow-below : (p : Path) (b y : ℕ) → b < r .size → follow r z p b y ≡ true → y < r .size
   unfolding follow

@@ -19,5 +19,6 @@ pub mod Invariance
 pub mod Parting
 pub mod Describing
 pub mod Rows
+pub mod Classes
 pub mod Examples
 pub mod Theorems

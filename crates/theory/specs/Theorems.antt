@@ -1,6 +1,7 @@
 -- What the theory proves of two graphs whose links stay among their nodes, at any bound c: open this file first.
 -- The steps to it: `Invariance` (related nodes keep what expressions say), `Clauses` (the Boolean clauses are the clauses), `Greatest` (the rounds
 -- settle to the greatest), `Parting` (from a clause that fails to an expression), `Describing` (what a round drops, an expression of its depth tells apart).
+-- What makes a search shorter: `Rows` (rows of a round are equal or disjoint), `Classes` (which paths are enough for the clause for two paths).
 use mathlib.Core.Bool.{true, false}
 use mathlib.Core.Logic.{_↔_}
 use mathlib.Core.Path.{_≡_}

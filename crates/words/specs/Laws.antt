@@ -4,17 +4,17 @@ use mathlib.Core.Path.{_≡_, refl, sym, ap, ap₂, _∙_}
 use mathlib.Core.Bool.{Bool, true, false, false≢true, cond, _&&_, _||_, not, xor, and-true, and-false}
 use mathlib.Core.Logic.{_↔_, ⊎-elim}
 use Prim.Native.Nat.{ℕ, zero, suc, _+_, _-_, _*_, _/_, _%_, _^_, _≤_, _<_, suc-le-suc}
-use native.Mathlib.Nat.{mod-lt, div-one, zero-div, pow-suc, zero-lt-suc, lt-of-le-of-lt, lt-of-lt-of-le, div-eq-of-lt, one-mul, zero-add, eq-or-lt-of-le}
+use native.Mathlib.Nat.{mod-lt, div-one, zero-div, pow-suc, zero-lt-suc, lt-of-le-of-lt, lt-of-lt-of-le, div-eq-of-lt, one-mul, zero-add, eq-or-lt-of-le, pos-of-ne-zero}
 use native.Mathlib.Numerals.{one-add}
 use native.Mathlib.Omega.{arith}
 use native.Mathlib.Decide.{decLt}
-use borrow.Author.Tests.{eqb-true, lt-ltb}
+use borrow.Author.Tests.{eqb-true, eq-eqb, lt-ltb}
 use lib.Arith.{lt-one}
-use lib.Bits.{bitAnd, bitOr, bitXor, and-shr, or-shr, xor-shr, and-mod, or-mod, xor-mod, xor-add-and, and-lt, or-lt, xor-lt, and-le-l, or-shifted-r}
+use lib.Bits.{bitAnd, bitOr, bitXor, and-shr, or-shr, xor-shr, and-mod, or-mod, xor-mod, xor-add-and, and-comm, and-lt, or-lt, xor-lt, and-le-l, or-shifted-r}
 use lib.Count.{ones, ones-step, trailingZeros, under}
 use lib.Dec.{eqb, ltb, eqb·zero-suc, eqb·suc-zero, eqb·suc-suc, leb·zero, leb·suc-zero, leb·suc-suc, lit<}
 use lib.Pow.{shr-shr, pow-pos, pow-mono, pow-lt}
-use Rattle.words.specs.Words.{digit, bit, tally, first, wordOf}
+use Rattle.words.specs.Words.{digit, bit, tally, first, wordOf, Inside}
 
 -- ---- digits
 digit-lt : (b : Bool) → digit b < 2
@@ -331,3 +331,46 @@ and-cell k w i h l t =
 
 pub without-less : (k w i : ℕ) → w < 2 ^ k → i < k → bit w i ≡ true → bitXor w (2 ^ i) < w
 without-less k w i h l t = omega (arith, xor-add-and w (2 ^ i), and-cell k w i h l t, pow-pos i)
+
+-- ---- sets inside of others
+-- the meet with a set that holds it is the set itself
+pub meet-inside : (k a b : ℕ) → a < 2 ^ k → Inside a b → bitAnd a b ≡ a
+meet-inside k a b h f =
+    word-ext k (bitAnd a b) a (lt-of-le-of-lt (and-le-l a b) h) h (λ i l. bit-and a b i ∙ held (bit a i) (bit b i) (f .each i))
+  where
+    held : (x y : Bool) → (x ≡ true → y ≡ true) → x && y ≡ x
+    held true y f = f refl
+    held false y f = refl
+
+-- a meet is inside of both its sets
+pub inside-meet : (a b : ℕ) → Inside (bitAnd a b) a × Inside (bitAnd a b) b
+inside-meet a b = (record { each = λ i t. cells i t .0 }, record { each = λ i t. cells i t .1 })
+  where
+    both : (x y : Bool) → x && y ≡ true → (x ≡ true) × (y ≡ true)
+    both true y e = (refl, e)
+    both false y e = absurd (false≢true e)
+
+    cells : (i : ℕ) → bit (bitAnd a b) i ≡ true → (bit a i ≡ true) × (bit b i ≡ true)
+    cells i t = both (bit a i) (bit b i) (sym (bit-and a b i) ∙ t)
+
+pub inside-iff : (k a b : ℕ) → a < 2 ^ k → (eqb (bitAnd a b) a ≡ true) ↔ Inside a b
+inside-iff k a b h = ((λ e. rw (eqb-true (bitAnd a b) a e) at (inside-meet a b .1)), (λ f. eq-eqb (bitAnd a b) a (meet-inside k a b h f)))
+
+-- ---- the cells of a set taken away
+pub bit-minus : (a b i : ℕ) → bit (bitXor a (bitAnd a b)) i ≡ bit a i && not (bit b i)
+unfolding xor
+bit-minus a b i =
+    bit-xor a (bitAnd a b) i ∙ ap (xor (bit a i)) (bit-and a b i) ∙ each (λ x y. xor x (x && y) ≡ x && not y) refl refl refl refl (bit a i) (bit b i)
+
+-- what is taken away and what is left are the whole
+pub minus-sum : (k a b : ℕ) → a < 2 ^ k → bitXor a (bitAnd a b) + bitAnd a b ≡ a
+minus-sum k a b h =
+    let e : bitAnd (bitAnd a b) a ≡ bitAnd a b = meet-inside k (bitAnd a b) a (lt-of-le-of-lt (and-le-l a b) h) (inside-meet a b .0) in
+    omega (arith, xor-add-and a (bitAnd a b), and-comm a (bitAnd a b))
+
+-- a set that has a cell is not 0
+pub cell-pos : (w i : ℕ) → bit w i ≡ true → 0 < w
+cell-pos w i t = pos-of-ne-zero (λ e. false≢true (sym (bit-zero i) ∙ rw e at t))
+
+pub minus-less : (k a b i : ℕ) → a < 2 ^ k → bit a i ≡ true → bit b i ≡ true → bitXor a (bitAnd a b) < a
+minus-less k a b i h s t = omega (arith, minus-sum k a b h, cell-pos (bitAnd a b) i (bit-and a b i ∙ rw (s, t)))

@@ -1,6 +1,6 @@
 -- Words as sets of cells: their bits, how many are set, which is the lowest, and the word of a test.
 use mathlib.Core.Path.{_≡_}
-use mathlib.Core.Bool.{Bool, true, cond}
+use mathlib.Core.Bool.{Bool, true, cond, not, _&&_}
 use Prim.Native.Nat.{ℕ, zero, suc, _+_, _*_, _/_, _%_, _^_, _≤_, _<_}
 use lib.Bits.{bitXor}
 use lib.Dec.{eqb}
@@ -43,3 +43,13 @@ pub record IsLowest (w r : ℕ) : Type 0 where
 pub record IsWithout (w i r : ℕ) : Type 0 where
   pub is : r ≡ bitXor w (2 ^ i)
   pub less : r < w
+
+-- every cell of a is one of b
+pub record Inside (a b : ℕ) : Type 0 where
+  pub each : (i : ℕ) → bit a i ≡ true → bit b i ≡ true
+
+-- r is a without the cells of b, and is less than a where they have a common cell
+pub record IsMinus (a b r : ℕ) : Type 0 where
+  pub bits : (i : ℕ) → bit r i ≡ bit a i && not (bit b i)
+  pub most : r ≤ a
+  pub less : (i : ℕ) → bit a i ≡ true → bit b i ≡ true → r < a

@@ -1,9 +1,10 @@
 // Sets of up to 64 cells, as words: cell i is in the set where bit i is set.
 ghost use mathlib.Core.Path.{_≡_};
 ghost use mathlib.Core.Bool.{true};
+ghost use mathlib.Core.Logic.{_↔_};
 ghost use Prim.Native.Nat.{_-_, _^_, _≤_, _<_};
 ghost use lib.Bits.{bitAnd, bitOr};
-ghost use Rattle.words.specs.Words.{bit, IsCount, IsLowest, IsWithout};
+ghost use Rattle.words.specs.Words.{bit, IsCount, IsLowest, IsWithout, Inside, IsMinus};
 
 // Whether cell i is in w.
 pub fn has(w: u64, i: u8) -> bool
@@ -49,6 +50,20 @@ pub fn meet(a: u64, b: u64) -> u64
     ensures { λ r. ⌜ r ≡ bitAnd a b ⌝ }
 {
     a & b
+}
+
+// The cells of a that are not in b.
+pub fn minus(a: u64, b: u64) -> u64
+    ensures { λ r. ⌜ IsMinus a b r ⌝ }
+{
+    a ^ (a & b)
+}
+
+// Whether every cell of a is in b.
+pub fn inside(a: u64, b: u64) -> bool
+    ensures { λ r. ⌜ (r ≡ true) ↔ Inside a b ⌝ }
+{
+    (a & b) == a
 }
 
 // The n lowest cells.

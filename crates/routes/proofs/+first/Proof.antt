@@ -3,7 +3,7 @@ use borrow.Author.Needs.{needs}
 use mathlib.Core.Path.{_≡_, refl}
 use Prim.Native.Nat.{ℕ, _-_, _*_, _≤_, _<_}
 use Rattle.hops.specs.Hops.{viewOf}
-use Rattle.classes.specs.Tables.{Room}
+use Rattle.tables.specs.Tips.{Room}
 use Rattle.routes.specs.Tails.{Seeking}
 use Rattle.routes.proofs.Loops.{FirstsTo, firsts-start, firsts-next, firsts-end, tail-low, tail-beyond, tail-short, first-found}
 use borrow.Fn.Kinds.{In}
@@ -60,19 +60,19 @@ first-first-requires : (t : ℕ) → first-lts.Need-first-requires (given t) (fi
 first-first-requires t c κs = (omega (arith, c .before .before .before .before .before .before .loop .inv .2), (record { left = search needs; right = search needs; named = search needs; firsts = search needs; seconds = search needs }, omega arith, search needs))
 
 first-back-requires : (t : ℕ) → first-lts.Need-back-requires (given t) (first-at t) first.Post first-Inv-loop first-μ-loop
-first-back-requires t c κs = (c .before .before .before .before .before .before .before .before .before .before .before .loop .inv .0 .left, c .before .before .before .before .before .before .before .before .before .before .before .loop .inv .0 .right, c .before .before .before .before .before .before .before .before .before .before .before .loop .inv .0 .firsts, tail-low _ _ _ _ _ _ _ _ _ _ _ _ (c .before .before .before .before .before .before .before .fill .ensures) _ _ (c .before .before .before .before .first .ensures .first (c .before .before .if2 .taken)), tail-beyond _ _ _ _ _ _ _ _ _ _ _ _ (c .before .before .before .before .before .before .before .fill .ensures) _ _ (c .before .before .before .before .first .ensures .first (c .before .before .if2 .taken)))
+first-back-requires t c κs = (c .before .before .before .before .before .before .before .before .before .before .before .loop .inv .0 .left, c .before .before .before .before .before .before .before .before .before .before .before .loop .inv .0 .right, c .before .before .before .before .before .before .before .before .before .before .before .loop .inv .0 .firsts, tail-low _ _ _ _ _ _ _ _ _ _ _ _ _ _ (c .before .before .before .before .before .before .before .fill .ensures) _ _ (c .before .before .before .before .first .ensures .first (c .before .before .if2 .taken)), tail-beyond _ _ _ _ _ _ _ _ _ _ _ _ _ _ (c .before .before .before .before .before .before .before .fill .ensures) _ _ (c .before .before .before .before .first .ensures .first (c .before .before .if2 .taken)))
 
 first-behind-requires : (t : ℕ) → first-lts.Need-behind-requires (given t) (first-at t) first.Post first-Inv-loop first-μ-loop
-first-behind-requires t c κs = tail-short _ _ _ _ _ _ _ _ _ _ _ _ (c .before .before .before .before .before .before .before .before .fill .ensures) _ _ (c .before .before .before .before .before .first .ensures .first (c .before .before .before .if2 .taken)) (c .before .before .before .before .before .before .before .before .before .before .before .before .loop .inv .1) (c .before .before .before .before .before .before .before .before .before .before .before .before .loop .inv .2)
+first-behind-requires t c κs = tail-short _ _ _ _ _ _ _ _ _ _ _ _ _ _ (c .before .before .before .before .before .before .before .before .fill .ensures) _ _ (c .before .before .before .before .before .first .ensures .first (c .before .before .before .if2 .taken)) (c .before .before .before .before .before .before .before .before .before .before .before .before .loop .inv .1) (c .before .before .before .before .before .before .before .before .before .before .before .before .loop .inv .2)
 
 first-returns-2 : (t : ℕ) → first-lts.Need-returns-2 (given t) (first-at t) first.Post first-Inv-loop first-μ-loop
-first-returns-2 t c = first-found _ _ _ _ _ _ _ _ _ _ _ _ _ _ _ _ _ _ _ _ (c .before .before .before .before .before .before .before .before .before .fill .ensures) (c .before .before .before .before .before .before .first .ensures) (c .before .before .before .before .if2 .taken) (c .before .before .before .before .before .before .before .before .before .before .before .before .before .loop .inv .2) _ (c .before .back .ensures) _ (c .behind .ensures) _ refl refl refl
+first-returns-2 t c = first-found _ _ _ _ _ _ _ _ _ _ _ _ _ _ _ _ _ _ _ _ _ _ (c .before .before .before .before .before .before .before .before .before .fill .ensures) (c .before .before .before .before .before .before .first .ensures) (c .before .before .before .before .if2 .taken) (c .before .before .before .before .before .before .before .before .before .before .before .before .before .loop .inv .2) _ (c .before .back .ensures) _ (c .behind .ensures) _ refl refl refl
 
 first-loop-less : (t : ℕ) → first-lts.Need-loop-less (given t) (first-at t) first.Post first-Inv-loop first-μ-loop
-first-loop-less t c = omega (arith, c .before .before .before .before .before .fill .ensures .further (c .before .before .before .before .before .before .before .before .loop-test .taken))
+first-loop-less t c = omega (arith, c .before .before .before .before .before .fill .ensures .further (omega arith) (c .before .before .before .before .before .before .before .before .loop-test .taken))
 
 first-loop-again : (t : ℕ) → first-lts.Need-loop-again (given t) (first-at t) first.Post first-Inv-loop first-μ-loop
-first-loop-again t c = (search needs, search needs, search needs, search needs, record { left = c .before .before .before .before .before .fill .ensures .room .left; right = c .before .before .before .before .before .fill .ensures .room .right; few = omega arith }, firsts-next _ _ _ _ _ _ _ _ _ _ _ _ _ _ _ _ _ _ _ _ (c .before .before .before .before .before .fill .ensures) (c .before .before .first .ensures) (c .if2 .left) (c .before .before .before .before .before .before .before .before .before .loop .inv .5), search needs)
+first-loop-again t c = (search needs, search needs, search needs, search needs, record { left = c .before .before .before .before .before .fill .ensures .room .left; right = c .before .before .before .before .before .fill .ensures .room .right; few = omega arith }, firsts-next _ _ _ _ _ _ _ _ _ _ _ _ _ _ _ _ _ _ _ _ _ _ (c .before .before .before .before .before .fill .ensures) (c .before .before .first .ensures) (c .if2 .left) (c .before .before .before .before .before .before .before .before .before .loop .inv .5), search needs)
 
 first-nothing-requires : (t : ℕ) → first-lts.Need-nothing-requires (given t) (first-at t) first.Post first-Inv-loop first-μ-loop
 first-nothing-requires t c κs = search needs

@@ -3,7 +3,7 @@ use borrow.Author.Needs.{needs}
 use mathlib.Core.Path.{_≡_, refl}
 use Prim.Native.Nat.{ℕ, _-_, _*_, _≤_, _<_}
 use Rattle.hops.specs.Hops.{viewOf}
-use Rattle.classes.specs.Tables.{Room}
+use Rattle.tables.specs.Tips.{Room}
 use Rattle.routes.specs.Tails.{Seeking}
 use Rattle.routes.proofs.Loops.{SecondsTo, tips-searched, seconds-start, seconds-next, seconds-end, tail-low, tail-beyond, tail-short, second-found}
 use borrow.Fn.Kinds.{In}
@@ -60,19 +60,19 @@ second-second-requires : (t : ℕ) → second-lts.Need-second-requires (given t)
 second-second-requires t c κs = (omega (arith, c .before .before .before .before .before .before .loop .inv .2), (record { left = search needs; right = search needs; named = search needs; firsts = search needs; seconds = search needs }, omega arith))
 
 second-back-requires : (t : ℕ) → second-lts.Need-back-requires (given t) (second-at t) second.Post second-Inv-loop second-μ-loop
-second-back-requires t c κs = (c .before .before .before .before .before .before .before .before .before .before .before .loop .inv .0 .left, c .before .before .before .before .before .before .before .before .before .before .before .loop .inv .0 .right, c .before .before .before .before .before .before .before .before .before .before .before .loop .inv .0 .seconds, tail-low _ _ _ _ _ _ _ _ _ _ _ _ (c .before .before .before .before .before .before .before .fill .ensures) _ _ (c .before .before .before .before .second .ensures .second (c .before .before .if2 .taken)), tail-beyond _ _ _ _ _ _ _ _ _ _ _ _ (c .before .before .before .before .before .before .before .fill .ensures) _ _ (c .before .before .before .before .second .ensures .second (c .before .before .if2 .taken)))
+second-back-requires t c κs = (c .before .before .before .before .before .before .before .before .before .before .before .loop .inv .0 .left, c .before .before .before .before .before .before .before .before .before .before .before .loop .inv .0 .right, c .before .before .before .before .before .before .before .before .before .before .before .loop .inv .0 .seconds, tail-low _ _ _ _ _ _ _ _ _ _ _ _ _ _ (c .before .before .before .before .before .before .before .fill .ensures) _ _ (c .before .before .before .before .second .ensures .second (c .before .before .if2 .taken)), tail-beyond _ _ _ _ _ _ _ _ _ _ _ _ _ _ (c .before .before .before .before .before .before .before .fill .ensures) _ _ (c .before .before .before .before .second .ensures .second (c .before .before .if2 .taken)))
 
 second-behind-requires : (t : ℕ) → second-lts.Need-behind-requires (given t) (second-at t) second.Post second-Inv-loop second-μ-loop
-second-behind-requires t c κs = tail-short _ _ _ _ _ _ _ _ _ _ _ _ (c .before .before .before .before .before .before .before .before .fill .ensures) _ _ (c .before .before .before .before .before .second .ensures .second (c .before .before .before .if2 .taken)) (c .before .before .before .before .before .before .before .before .before .before .before .before .loop .inv .1) (c .before .before .before .before .before .before .before .before .before .before .before .before .loop .inv .2)
+second-behind-requires t c κs = tail-short _ _ _ _ _ _ _ _ _ _ _ _ _ _ (c .before .before .before .before .before .before .before .before .fill .ensures) _ _ (c .before .before .before .before .before .second .ensures .second (c .before .before .before .if2 .taken)) (c .before .before .before .before .before .before .before .before .before .before .before .before .loop .inv .1) (c .before .before .before .before .before .before .before .before .before .before .before .before .loop .inv .2)
 
 second-returns-2 : (t : ℕ) → second-lts.Need-returns-2 (given t) (second-at t) second.Post second-Inv-loop second-μ-loop
-second-returns-2 t c = second-found _ _ _ _ _ _ _ _ _ _ _ _ _ _ _ _ _ _ _ _ (c .before .before .before .before .before .before .before .before .before .fill .ensures) (c .before .before .before .before .before .before .second .ensures) (c .before .before .before .before .if2 .taken) (c .before .before .before .before .before .before .before .before .before .before .before .before .before .loop .inv .2) _ (c .before .back .ensures) _ (c .behind .ensures) _ refl refl refl
+second-returns-2 t c = second-found _ _ _ _ _ _ _ _ _ _ _ _ _ _ _ _ _ _ _ _ _ _ (c .before .before .before .before .before .before .before .before .before .fill .ensures) (c .before .before .before .before .before .before .second .ensures) (c .before .before .before .before .if2 .taken) (c .before .before .before .before .before .before .before .before .before .before .before .before .before .loop .inv .2) _ (c .before .back .ensures) _ (c .behind .ensures) _ refl refl refl
 
 second-loop-less : (t : ℕ) → second-lts.Need-loop-less (given t) (second-at t) second.Post second-Inv-loop second-μ-loop
-second-loop-less t c = omega (arith, c .before .before .before .before .before .fill .ensures .further (c .before .before .before .before .before .before .before .before .loop-test .taken))
+second-loop-less t c = omega (arith, c .before .before .before .before .before .fill .ensures .further (omega arith) (c .before .before .before .before .before .before .before .before .loop-test .taken))
 
 second-loop-again : (t : ℕ) → second-lts.Need-loop-again (given t) (second-at t) second.Post second-Inv-loop second-μ-loop
-second-loop-again t c = (search needs, search needs, search needs, search needs, record { left = c .before .before .before .before .before .fill .ensures .room .left; right = c .before .before .before .before .before .fill .ensures .room .right; few = omega arith }, seconds-next _ _ _ _ _ _ _ _ _ _ _ _ _ _ _ _ _ _ _ _ (c .before .before .before .before .before .fill .ensures) (c .before .before .second .ensures) (c .if2 .left) (c .before .before .before .before .before .before .before .before .before .loop .inv .5))
+second-loop-again t c = (search needs, search needs, search needs, search needs, record { left = c .before .before .before .before .before .fill .ensures .room .left; right = c .before .before .before .before .before .fill .ensures .room .right; few = omega arith }, seconds-next _ _ _ _ _ _ _ _ _ _ _ _ _ _ _ _ _ _ _ _ _ _ (c .before .before .before .before .before .fill .ensures) (c .before .before .second .ensures) (c .if2 .left) (c .before .before .before .before .before .before .before .before .before .loop .inv .5))
 
 second-nothing-requires : (t : ℕ) → second-lts.Need-nothing-requires (given t) (second-at t) second.Post second-Inv-loop second-μ-loop
 second-nothing-requires t c κs = search needs

@@ -4,7 +4,7 @@ use borrow.Author.Needs.{needs}
 use Prim.Native.Nat.{_+_, _-_, _≤_}
 use Rattle.hops.specs.Hops.{viewOf}
 use Rattle.search.specs.Lengths.{Ready}
-use Rattle.search.proofs.Ranges.{TotalsTo, totals-start, totals-next, totals-end, totals-found}
+use Rattle.search.proofs.Ranges.{asked, TotalsTo, totals-start, totals-none, totals-next, totals-end, totals-found}
 use Rattle.search.proofs.by_total.Statement.{statement}
 use Rattle.search.proofs.by_total.Tie as tie
 
@@ -20,11 +20,20 @@ loop-holds c = (search needs, omega arith, omega arith, totals-start _ _ _ _ _ _
 add-loop : tie.Need-add-loop Inv-loop μ-loop
 add-loop c = omega arith
 
+none-fails-requires : tie.Need-none-fails-requires Inv-loop μ-loop
+none-fails-requires c κs = search asked
+
+no-pair-requires : tie.Need-no-pair-requires Inv-loop μ-loop
+no-pair-requires c κs = search needs
+
+returns : tie.Need-returns Inv-loop μ-loop
+returns c = totals-none _ _ _ _ _ _ _ _ _ (c .no-pair .ensures) (c .before .before .none-fails .ensures (c .before .if2 .taken))
+
 by-lengths-requires : tie.Need-by-lengths-requires Inv-loop μ-loop
 by-lengths-requires c κs = (search needs, omega arith, omega arith)
 
-returns : tie.Need-returns Inv-loop μ-loop
-returns c = search totals-found
+returns-2 : tie.Need-returns-2 Inv-loop μ-loop
+returns-2 c = search totals-found
 
 add-s : tie.Need-add-s Inv-loop μ-loop
 add-s c = omega arith
@@ -33,13 +42,13 @@ loop-less : tie.Need-loop-less Inv-loop μ-loop
 loop-less c = omega arith
 
 loop-again : tie.Need-loop-again Inv-loop μ-loop
-loop-again c = (search needs, omega arith, omega arith, totals-next _ _ _ _ _ _ _ _ _ (c .before .before .before .before .loop .inv .3) _ (c .before .before .by-lengths .ensures) (c .if1 .left))
+loop-again c = (search needs, omega arith, omega arith, totals-next _ _ _ _ _ _ _ _ _ (c .before .before .before .before .before .loop .inv .3) _ (c .before .before .by-lengths .ensures) (c .if3 .left))
 
-no-pair-requires : tie.Need-no-pair-requires Inv-loop μ-loop
-no-pair-requires c κs = search needs
+no-pair-requires-2 : tie.Need-no-pair-requires-2 Inv-loop μ-loop
+no-pair-requires-2 c κs = search needs
 
-returns-2 : tie.Need-returns-2 Inv-loop μ-loop
-returns-2 c = search totals-end
+returns-3 : tie.Need-returns-3 Inv-loop μ-loop
+returns-3 c = search totals-end
 
 pub by-total-spec : {M : Type 1} → statement M
 by-total-spec =
@@ -49,10 +58,13 @@ by-total-spec =
     μ-loop
     loop-holds
     add-loop
-    by-lengths-requires
+    none-fails-requires
+    no-pair-requires
     returns
+    by-lengths-requires
+    returns-2
     add-s
     loop-less
     loop-again
-    no-pair-requires
-    returns-2)
+    no-pair-requires-2
+    returns-3)

@@ -1,0 +1,2 @@
+pub mod Tips
+pub mod Laws
