@@ -19,6 +19,10 @@ const MEASURED: Duration = Duration::from_millis(300);
 const LEAST: usize = 5;
 const MOST: usize = 300;
 
+/// Where a call takes longer than this, each is called so often only.
+const LONG: Duration = Duration::from_secs(1);
+const LEAST_LONG: usize = 2;
+
 /// Times of the library above the first are marked, and those above the second are counted: one in ten at most.
 const SLOW: Duration = Duration::from_secs(2);
 const SLOWISH: Duration = Duration::from_millis(300);
@@ -89,7 +93,7 @@ struct Seen {
 
 fn main() {
     println!(
-        "best of {LEAST} to {MOST} calls each, by turns; times on the processor in ms; map, room and scratch are filled with ones before each call"
+        "best of {LEAST} to {MOST} calls each, by turns, or of {LEAST_LONG} above a second; times on the processor in ms; map, room and scratch are filled with ones before each call"
     );
     println!(
         "{:<60}{:>6}{:>6}{:>9}{:>8}{:>8}{:>12}{:>12}{:>8}",
@@ -112,10 +116,15 @@ fn table(name: &str, families: &[Family], most: f64) {
             seen.slowish += (row.library > SLOWISH) as usize;
             seen.above += above as usize;
             println!(
-                "{:<60}{:>6}{bound:>6}{}{}{}",
+                "{:<60}{:>6}{bound:>6}{}{}{}{}",
                 family.name,
                 family.left.cells(),
                 row.text(),
+                if row.calls < LEAST {
+                    format!("  best of {}", row.calls)
+                } else {
+                    String::new()
+                },
                 if slow { "  above 2 s" } else { "" },
                 if above { "  ratio above the most" } else { "" },
             );
@@ -130,12 +139,21 @@ fn table(name: &str, families: &[Family], most: f64) {
 /// What one pair of books gave at one bound.
 struct Row {
     pairs: usize,
+    calls: usize,
     answer: Outcome,
     library: Duration,
     plain: Duration,
 }
 
 impl Row {
+    /// How often each is called at least.
+    fn least(&self) -> usize {
+        match self.library.max(self.plain) > LONG {
+            true => LEAST_LONG,
+            false => LEAST,
+        }
+    }
+
     fn ratio(&self) -> f64 {
         self.library.as_secs_f64() / self.plain.as_secs_f64()
     }
@@ -164,13 +182,14 @@ fn measure(left: &[u8], right: &[u8], bound: usize) -> Row {
     let (mut by_library, mut by_plain) = (new(), new());
     let mut row = Row {
         pairs,
+        calls: 0,
         answer: accepted(0, 0),
         library: Duration::MAX,
         plain: Duration::MAX,
     };
-    let (mut calls, mut all) = (0, Duration::ZERO);
+    let mut all = Duration::ZERO;
     let plain = plain_compare::compare::<PLACES>;
-    while calls < LEAST || all < MEASURED && calls < MOST {
+    while row.calls < row.least() || all < MEASURED && row.calls < MOST {
         let (of_library, time) = timed(library::compare, left, right, bound, &mut by_library);
         let (of_plain, plain_time) = timed(plain, left, right, bound, &mut by_plain);
         if of_library != of_plain || of_library.refusal != 0 || by_library != by_plain {
@@ -183,7 +202,7 @@ fn measure(left: &[u8], right: &[u8], bound: usize) -> Row {
         row.library = row.library.min(time);
         row.plain = row.plain.min(plain_time);
         all += time + plain_time;
-        calls += 1;
+        row.calls += 1;
     }
     row
 }

@@ -59,10 +59,8 @@ fn of_size(cells: usize) -> Vec<Family> {
 pub fn hard() -> Vec<Family> {
     let random = &mut Random::new(7);
     let mut books: Vec<(String, Book)> = Vec::new();
-    let mut add = |name: String, kinds: usize, book: Book| {
-        let plural = if kinds == 1 { "" } else { "s" };
-        books.push((format!("{name}, {kinds} recording{plural}"), book));
-    };
+    let mut add =
+        |name: String, kinds: usize, book: Book| books.push((of_kinds(&name, kinds), book));
     for (cells, labels) in [(32, 16), (64, 8)] {
         for kinds in [1, 2, 4, 16, 64] {
             let recorded = recordings(random, cells, kinds);
@@ -144,7 +142,38 @@ pub fn hard() -> Vec<Family> {
             right: chain(recorded, |_| 1),
         });
     }
+    families.extend(dense(random));
     families
+}
+
+/// Random books of 500 links, by several labels.
+fn dense(random: &mut Random) -> Vec<Family> {
+    let mut families = Vec::new();
+    for (cells, labels) in [
+        (8, 32),
+        (12, 16),
+        (16, 16),
+        (16, 32),
+        (20, 8),
+        (24, 8),
+        (32, 8),
+        (32, 10),
+        (48, 8),
+        (64, 4),
+    ] {
+        for kinds in [1, 4, cells.min(16)] {
+            let book = random_book(random, cells, 500, labels, kinds);
+            let name = of_kinds(&format!("dense, {labels} labels, 500 links"), kinds);
+            families.push(Family::renumbered(name, random, book));
+        }
+    }
+    families
+}
+
+/// The name of a family with so many recordings.
+fn of_kinds(name: &str, kinds: usize) -> String {
+    let plural = if kinds == 1 { "" } else { "s" };
+    format!("{name}, {kinds} recording{plural}")
 }
 
 /// Recordings of so many kinds; all different where the kinds suffice.

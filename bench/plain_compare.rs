@@ -1,6 +1,7 @@
 //! Compare in plain Rust, by the library's method: the same rounds over the same pairs in the same order, without those that a row
-//! before tells to stay; the same search over classes of paths in tables, filled and gone through in the same order, and left at the
-//! first reason. So map and sheet are the library's to the byte, with tables of as many places.
+//! before tells to stay; the same search over classes of paths in tables, without covered tips, filled and gone through in the same
+//! order, and left at the first reason, or where one table tells that there is none. So map and sheet are the library's to the byte,
+//! with tables of as many places.
 
 use crate::support::checks::check_book;
 use crate::support::outcome::{accepted, refused, Outcome, CALL, LEFT_BOOK, RIGHT_BOOK};
@@ -110,16 +111,49 @@ fn passing(rows: &[u64; 64], mut word: u64) -> u64 {
     out
 }
 
+/// Two paths of so many links in all, or of more, are looked for only where there may be some.
+const LATE: usize = 3;
+
 /// How many classes there is room for in a table. One class and label give at most 64 tips.
 const ROOM: usize = 128;
 const TIPS: usize = 64;
 
-/// How often a table was full, for the tests.
+/// How often a part was full, for the tests.
 pub static FULL: AtomicUsize = AtomicUsize::new(0);
+
+/// How often no two classes of a table of all lengths clash, how often some do, and how often it was full, for the tests.
+pub static QUIET: AtomicUsize = AtomicUsize::new(0);
+pub static CLASHED: AtomicUsize = AtomicUsize::new(0);
+pub static UNKNOWN: AtomicUsize = AtomicUsize::new(0);
+
+/// The cells of a that are not in b.
+fn minus(a: u64, b: u64) -> u64 {
+    a & !b
+}
+
+/// Every cell of a is in b.
+fn inside(a: u64, b: u64) -> bool {
+    minus(a, b) == 0
+}
+
+/// The cells whose row is the row.
+fn rowmates(related: &[u64; 64], mut cells: u64, row: u64) -> u64 {
+    let mut out = 0;
+    while cells != 0 {
+        let x = cells.trailing_zeros();
+        if related[x as usize] == row {
+            out |= 1 << x;
+        }
+        cells &= cells - 1;
+    }
+    out
+}
 
 /// Paths from a cell of one book, each with the paths of the other book that are alike to it, taken together in classes: `lefts[e]`
 /// has the cells where the paths of class e end, `rights[e]` the ends of the paths of the other book alike to each of them. A tip
-/// (x, w) is an end and such a set: the tips of class e have the ends of `lefts[e]` and the set `rights[e]`.
+/// (x, w) is an end and such a set: the tips of class e have the ends of `lefts[e]` and the set `rights[e]`. Of tips of one cell only
+/// those with the smallest sets are kept: whatever fails with a set fails with each set inside of it.
+#[derive(Clone)]
 struct Table {
     count: usize,
     lefts: [u64; ROOM],
@@ -135,37 +169,87 @@ impl Table {
         }
     }
 
-    /// The place of the class with the set w, or the number of classes. It looks at `near` first.
-    fn place(&self, near: usize, w: u64) -> usize {
-        if near < self.count && self.rights[near] == w {
-            return near;
-        }
-        let mut classes = self.rights[..self.count].iter();
-        classes.position(|&set| set == w).unwrap_or(self.count)
+    /// The table of the one tip (x, {y}).
+    fn root(x: usize, y: usize) -> Table {
+        let mut table = Table::empty();
+        table.count = 1;
+        table.lefts[0] = 1 << x;
+        table.rights[0] = 1 << y;
+        table
     }
 
-    /// Puts the tip (x, w) in, and gives the place of its class.
-    fn put(&mut self, near: usize, x: usize, w: u64) -> usize {
-        let e = self.place(near, w);
+    /// The cells and the set of each class.
+    fn classes(&self) -> impl Iterator<Item = (u64, u64)> + '_ {
+        let lefts = self.lefts[..self.count].iter();
+        let rights = self.rights[..self.count].iter();
+        lefts.zip(rights).map(|(&left, &right)| (left, right))
+    }
+
+    /// The cells that are in no class with a set inside of w.
+    fn uncovered(&self, mut cells: u64, w: u64) -> u64 {
+        for (left, right) in self.classes() {
+            if inside(right, w) {
+                cells = minus(cells, left);
+                if cells == 0 {
+                    break;
+                }
+            }
+        }
+        cells
+    }
+
+    /// The first class with the set w or no cells, or the number of classes.
+    fn place(&self, w: u64) -> usize {
+        let mut classes = self.classes();
+        let place = classes.position(|(left, right)| right == w || left == 0);
+        place.unwrap_or(self.count)
+    }
+
+    /// Puts the tips of the cells with the set w into class e, which has that set or no cells or is the next.
+    fn join(&mut self, e: usize, cells: u64, w: u64) {
         if e == self.count {
             self.lefts[e] = 0;
-            self.rights[e] = w;
             self.count += 1;
         }
-        self.lefts[e] |= 1 << x;
-        e
+        self.lefts[e] |= cells;
+        self.rights[e] = w;
     }
 
-    /// Puts the tips (y, s cut with row y) of these cells y in; false where there are already `most` classes before the last.
+    /// Takes the cells out of each class whose set is wider than w.
+    fn narrow(&mut self, cells: u64, w: u64) {
+        for (left, &right) in self.lefts[..self.count].iter_mut().zip(&self.rights) {
+            if right != w && inside(w, right) {
+                *left = minus(*left, cells);
+            }
+        }
+    }
+
+    /// Puts the tips of the cells with the set w in, but for those that the table covers; false where they need another class than
+    /// the `most` there are.
+    fn put(&mut self, cells: u64, w: u64, most: usize) -> bool {
+        let new = self.uncovered(cells, w);
+        if new == 0 {
+            return true;
+        }
+        let e = self.place(w);
+        if e == self.count && e >= most {
+            return false;
+        }
+        self.join(e, new, w);
+        self.narrow(new, w);
+        true
+    }
+
+    /// Puts the tips (y, s cut with row y) of these cells y in, those with the same row at once; false where there is no room for
+    /// all of them.
     fn grow(&mut self, related: &[u64; 64], mut cells: u64, s: u64, most: usize) -> bool {
-        let mut near = 0;
         while cells != 0 {
-            if self.count >= most {
+            let row = related[cells.trailing_zeros() as usize];
+            let mates = rowmates(related, cells, row);
+            if !self.put(mates, s & row, most) {
                 return false;
             }
-            let y = cells.trailing_zeros() as usize;
-            near = self.put(near, y, s & related[y]);
-            cells &= cells - 1;
+            cells = minus(cells, mates);
         }
         true
     }
@@ -258,24 +342,33 @@ impl<const PLACES: usize> Search<'_, PLACES> {
         None
     }
 
-    /// Makes `part` the tips one link beyond those of the table, from the place `at` on, until it is full. Gives the place where to
-    /// go on: that of label number i and class e is `ROOM` × i + e.
+    /// Puts the tips one link beyond those of the table, from the place `at` on, into `part`, until it is full. Gives the place where
+    /// to go on: that of label number i and class e is `ROOM` × i + e.
     fn fill(&self, labels: &[u8], table: &Table, at: usize, part: &mut Table) -> usize {
         let here = union(&table.lefts[..table.count]);
         let there = union(&table.rights[..table.count]);
         let (mut rows, mut other_rows) = ([0; 64], [0; 64]);
-        part.count = 0;
         let mut from = at % ROOM;
         for (i, &label) in labels.iter().enumerate().skip(at / ROOM) {
             self.one.put_rows(here, label, &mut rows);
             self.other.put_rows(there, label, &mut other_rows);
             if let Some(e) = self.fill_label(&rows, &other_rows, table, from, part) {
-                FULL.fetch_add(1, Ordering::Relaxed);
                 return ROOM * i + e;
             }
             from = 0;
         }
         ROOM * labels.len()
+    }
+
+    /// Makes `part` the tips one link beyond those of the table, from the place `at` on, until it is full. Gives the place where to
+    /// go on.
+    fn next_part(&self, labels: &[u8], table: &Table, at: usize, part: &mut Table) -> usize {
+        part.count = 0;
+        let next = self.fill(labels, table, at, part);
+        if next < ROOM * labels.len() {
+            FULL.fetch_add(1, Ordering::Relaxed);
+        }
+        next
     }
 
     /// The path with a link before it, by which a tip of the table leads to where it begins.
@@ -363,7 +456,7 @@ impl<const PLACES: usize> Search<'_, PLACES> {
         let mut part = Table::empty();
         let mut at = 0;
         while at < ROOM * labels.len() {
-            at = self.fill(labels, seconds, at, &mut part);
+            at = self.next_part(labels, seconds, at, &mut part);
             if let Some(found) = self.second(labels, firsts, &part, rest - 1) {
                 return Some(Found {
                     second: self.back(seconds, found.second),
@@ -389,7 +482,7 @@ impl<const PLACES: usize> Search<'_, PLACES> {
         let mut part = Table::empty();
         let mut at = 0;
         while at < ROOM * labels.len() {
-            at = self.fill(labels, firsts, at, &mut part);
+            at = self.next_part(labels, firsts, at, &mut part);
             if let Some(found) = self.first(labels, &part, seconds, more - 1, rest) {
                 return Some(Found {
                     first: self.back(firsts, found.first),
@@ -403,8 +496,7 @@ impl<const PLACES: usize> Search<'_, PLACES> {
     /// Two paths of i and j links from x without counterpart from y.
     fn two_paths(&self, x: usize, y: usize, i: usize, j: usize) -> Option<Reason> {
         let (labels, many) = self.one.labels_of();
-        let mut root = Table::empty();
-        root.put(0, x, 1 << y);
+        let root = Table::root(x, y);
         let found = self.first(&labels[..many], &root, &root, i, j)?;
         Some(Reason {
             kind: found.kind,
@@ -413,13 +505,43 @@ impl<const PLACES: usize> Search<'_, PLACES> {
         })
     }
 
+    /// A table of the tips of all paths of at most `bound` links from x with y for a partner, without covered ones; none where it
+    /// would be full.
+    fn covering(&self, x: usize, y: usize, bound: usize) -> Option<Table> {
+        let (labels, many) = self.one.labels_of();
+        let mut table = Table::root(x, y);
+        for _ in 0..bound {
+            let mut next = table.clone();
+            if self.fill(&labels[..many], &table, 0, &mut next) < ROOM * many {
+                return None;
+            }
+            table = next;
+        }
+        Some(table)
+    }
+
+    /// A table tells that no two paths of at most `bound` links from x are without counterpart from y.
+    fn none_fails(&self, x: usize, y: usize, bound: usize) -> bool {
+        let clash = self
+            .covering(x, y, bound)
+            .map(|table| self.two_tips(&table, &table).is_some());
+        let seen = match clash {
+            Some(false) => &QUIET,
+            Some(true) => &CLASHED,
+            None => &UNKNOWN,
+        };
+        seen.fetch_add(1, Ordering::Relaxed);
+        clash == Some(false)
+    }
+
     /// A link from x without counterpart from y.
     fn one_link(&self, x: usize, y: usize) -> Option<u16> {
         let mut links = self.one.starts[x]..self.one.starts[x + 1];
         links.find(|&k| self.step(1 << y, k) == 0)
     }
 
-    /// First a link without counterpart; else two paths of at most `bound` links each, fewest in all first.
+    /// First a link without counterpart; else two paths of at most `bound` links each, fewest in all first. Before those of `LATE`
+    /// links one table is asked whether there are any.
     fn reason(&self, x: usize, y: usize, bound: usize) -> Option<Reason> {
         if let Some(k) = self.one_link(x, y) {
             return Some(Reason {
@@ -432,6 +554,9 @@ impl<const PLACES: usize> Search<'_, PLACES> {
             });
         }
         for total in 0..=2 * bound {
+            if total == LATE && self.none_fails(x, y, bound) {
+                return None;
+            }
             for i in total.saturating_sub(bound)..=total / 2 {
                 let reason = self.two_paths(x, y, i, total - i);
                 if reason.is_some() {

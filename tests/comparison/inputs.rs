@@ -10,8 +10,9 @@ use crate::support::remade::{damaged, renumbered, split};
 use crate::support::shapes::{draw, OTHERS, SHAPES};
 use crate::tally::{Tally, TENS};
 
-/// The most ways from a cell of a book of 10 to 20 cells.
+/// The most ways from a cell of a book of 10 to 20 cells, and of a dense one.
 const MOST_WAYS: usize = 200;
+const DENSE_WAYS: usize = 3_200;
 
 /// How many pairs of books of each shape at each bound.
 const DRAWN: usize = 400;
@@ -32,6 +33,7 @@ pub fn all(tally: &mut Tally) {
     middling(tally, random);
     crowded(tally, random);
     large(tally, random);
+    dense(tally, random);
 }
 
 /// Exactly what two books need.
@@ -269,7 +271,7 @@ fn draw_middling(random: &mut Random, round: usize, bound: usize) -> (Book, Book
     }
 }
 
-/// Books with so many classes of paths of one length that the tables of the library are too small for them.
+/// Books with many classes of paths of one length: one or two links by each of four labels from each cell.
 fn crowded(tally: &mut Tally, random: &mut Random) {
     for cells in [10, 12, 14, 16] {
         let mut book = random_book(random, cells, 0, 1, 3);
@@ -325,4 +327,34 @@ fn large(tally: &mut Tally, random: &mut Random) {
     let other = split(random, &half, 32, 4);
     let other = renumbered(random, &other);
     ask(random, &half, &other, 2);
+}
+
+/// Books of 10 to 20 cells with many links by several labels, and others that are the same or nearly so. Of the last ones some have
+/// more classes than the tables of the library have places.
+fn dense(tally: &mut Tally, random: &mut Random) {
+    for bound in [3, 4] {
+        for labels in [2, 4, 8, 16] {
+            let cells = random.between(10, 20);
+            ask_dense(tally, random, cells, labels, bound);
+        }
+    }
+    for _ in 0..4 {
+        ask_dense(tally, random, 20, 6, 3);
+    }
+}
+
+/// Compares a dense book of so many cells and labels with a renumbered copy, and with a damaged one.
+fn ask_dense(tally: &mut Tally, random: &mut Random, cells: usize, labels: usize, bound: usize) {
+    let out = if bound == 3 { 12 } else { 6 };
+    let kinds = random.between(1, 3);
+    let book = loop {
+        let book = random_book(random, cells, out * cells, labels, kinds);
+        if most_ways(&book, bound) <= DENSE_WAYS {
+            break book;
+        }
+    };
+    let other = renumbered(random, &book);
+    ask(tally, random, &book, &other, bound, TENS, SOME_CLAIMS);
+    let other = damaged(random, &other);
+    ask(tally, random, &book, &other, bound, TENS, SOME_CLAIMS);
 }

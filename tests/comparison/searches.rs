@@ -2,13 +2,13 @@
 //! pairs of paths. They have the same matched pairs, and every comparison has the same number of steps in all.
 
 use crate::expected::Asked;
-use crate::plain_compare::{self, FULL};
+use crate::plain_compare::{self, CLASHED, FULL, QUIET, UNKNOWN};
 use crate::support::call::Call;
 use crate::support::loops::{Dropped, Reason};
 use crate::support::outcome::Outcome;
 use crate::support::sheets::{Entry, Sheet};
 use std::collections::BTreeMap;
-use std::sync::atomic::Ordering;
+use std::sync::atomic::{AtomicUsize, Ordering};
 
 /// How many places the tables of the library have.
 const PLACES: usize = 128;
@@ -23,14 +23,23 @@ pub struct Written<'a> {
     pub room: &'a [u8],
 }
 
-/// The cases with tables of so many places, how often one was full and in how many cases, and how many have another sheet than with
-/// `PLACES`.
+/// What the plain version counts: how often a part was full, and for how many pairs a table of all lengths told that no classes
+/// clash, or that some do, or was full.
+static COUNTS: [(&str, &AtomicUsize); 4] = [
+    ("full parts", &FULL),
+    ("quiet pairs", &QUIET),
+    ("clashing pairs", &CLASHED),
+    ("pairs not known", &UNKNOWN),
+];
+
+/// The cases with tables of so many places, how many have another sheet than with `PLACES`, and of all `COUNTS` what was counted
+/// and in how many cases.
 #[derive(Clone, Copy, Default)]
 struct Counted {
     cases: usize,
-    full: usize,
-    full_cases: usize,
     others: usize,
+    counts: [usize; COUNTS.len()],
+    in_cases: [usize; COUNTS.len()],
 }
 
 #[derive(Default)]
@@ -88,7 +97,7 @@ impl Searches {
         let mut map = vec![u16::MAX; asked.map];
         let mut room = vec![0; asked.room];
         let mut scratch = vec![0; asked.scratch];
-        let full_before = FULL.load(Ordering::Relaxed);
+        let before = COUNTS.map(|(_, count)| count.load(Ordering::Relaxed));
         let answer = plain_compare::compare::<N>(
             asked.left,
             asked.right,
@@ -107,30 +116,36 @@ impl Searches {
         if N == PLACES && other {
             call.fail(&format!("{who} does not write what the library does"));
         }
-        let full = FULL.load(Ordering::Relaxed) - full_before;
         let counted = self.by_places.entry(N).or_default();
         counted.cases += 1;
-        counted.full += full;
-        counted.full_cases += (full != 0) as usize;
         counted.others += other as usize;
+        for (place, (_, count)) in COUNTS.iter().enumerate() {
+            let more = count.load(Ordering::Relaxed) - before[place];
+            counted.counts[place] += more;
+            counted.in_cases[place] += (more != 0) as usize;
+        }
     }
 
-    /// Prints the counts, and ends the test where some tables were never full.
+    /// Prints the counts, and ends the test where something was never counted with tables of some places.
     pub fn report(&self) {
         let all: usize = self.steps.values().sum();
         println!(
             "comparisons named in maps: {all}, by steps in all {:?}",
             self.steps
         );
-        println!("the plain version by the places of its tables, as many steps as with all pairs of paths:");
+        println!("the plain version by the places of its tables, as many steps as with all pairs of paths; how often, and in how many cases:");
         for (places, counted) in &self.by_places {
             println!(
-                "  places {places:>3}: {:>6} cases; {:>6} with a full table, {:>7} times in all; {:>4} with another sheet than the library's",
-                counted.cases, counted.full_cases, counted.full, counted.others
+                "  places {places:>3}: {:>6} cases, {:>4} with another sheet than the library's",
+                counted.cases, counted.others
             );
-            if counted.full == 0 {
-                println!("tables of {places} places were never full");
-                std::process::exit(1);
+            for (place, (name, _)) in COUNTS.iter().enumerate() {
+                let (count, in_cases) = (counted.counts[place], counted.in_cases[place]);
+                println!("    {name:<16}{count:>9}{in_cases:>7}");
+                if count == 0 {
+                    println!("tables of {places} places had no {name}");
+                    std::process::exit(1);
+                }
             }
         }
     }
