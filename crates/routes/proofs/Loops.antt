@@ -1,12 +1,13 @@
 -- The loops over the parts one link beyond a table: what each turn and each way out shows. Assumes nothing.
+use mathlib.Core.Bool.{Bool, true, false, cond}
 use mathlib.Core.Path.{_≡_, refl, sym, ap, _∙_}
 use mathlib.Core.Logic.{⊎-elim}
 use mathlib.Core.List.{List, [], _∷_}
-use Prim.Native.Nat.{ℕ, _-_, _*_, _^_, _≤_, _<_}
+use Prim.Native.Nat.{ℕ, _+_, _-_, _*_, _^_, _≤_, _<_}
 use native.Mathlib.Nat.{pos-of-ne-zero}
 use native.Mathlib.Omega.{arith}
 use lib.ListN.{length, getD, set}
-use Rattle.theory.specs.Tests.{le-or-lt}
+use Rattle.theory.specs.Tests.{never, le-or-lt}
 use Rattle.words.specs.Words.{Inside}
 use Rattle.hops.specs.Hops.{View, labelOf, toOf, Opened}
 use Rattle.classes.specs.declared.Part.{Part}
@@ -22,7 +23,7 @@ use Rattle.routes.specs.declared.Found.{Found}
 use Rattle.routes.specs.declared.Pair.{Pair}
 use Rattle.routes.specs.Pairs.{fault, alone, failure, linksIn, Shaped, Sought}
 use Rattle.routes.specs.Laws.{fault-inside}
-use Rattle.routes.specs.Tails.{Prepended, Standing, Met, Runs, Tailed, between, Searched}
+use Rattle.routes.specs.Tails.{Prepended, Standing, Met, Runs, Tailed, faultOf, exchange, Searched}
 
 -- What holds of a tip holds of each tip that it covers.
 abbrev Passes : (ℕ → ℕ → Type 0) → Type 0
@@ -106,111 +107,106 @@ prepended v u z ls′ rs′ n′ ls rs n rest pos t g s c r b = record {
     links = b .path (g .shaped .room)
 
 -- ---- two paths
-module _ (v u : View) (z ea eb pl pr : List ℕ) (pn : ℕ) (ql qr : List ℕ) (qn : ℕ) where
-  -- paths without links are tips
-  pub tips-searched : (f : Found) → Met ea eb pl pr pn ql qr qn f → (rest : ℕ) → rest ≡ 0 → Searched v u z ea eb pl pr pn ql qr qn 0 rest f
-  unfolding endOf endsOver Trail
-  tips-searched f m rest d = rw d (record {
-    first = λ n. standing pl pr pn (f .first) (m .first n);
-    second = λ n. standing ql qr qn (f .second) (m .second n);
-    fails = λ n. rw (none-in (f .first .path) (m .first n .stays), none-in (f .second .path) (m .second n .stays)) (m .fails n);
-    none = λ e x w p y o q a b. rw (empty p (a .long), empty q (b .long)) (m .none e x w y o (a .has) (b .has));
-  })
-    where
-      none-in : (r : Route) → Shaped 0 r → linksIn r ≡ []
-      none-in r h = rw (h .long)
+-- paths without links are tips; those of two tables, turned
+pub tips-searched : (v u : View) (z ea eb pl pr : List ℕ) (pn : ℕ) (ql qr : List ℕ) (qn : ℕ) (f : Found) → Met ea eb ql qr qn pl pr pn f
+    → (turned : Bool) → turned ≡ true → (more rest : ℕ) → more ≡ 0 → rest ≡ 0 → (r : Found) → r ≡ exchange f
+    → Searched v u z ea eb turned pl pr pn more ql qr qn rest r
+unfolding endOf endsOver Trail faultOf
+tips-searched v u z ea eb pl pr pn ql qr qn f m turned dt more rest dm dr r d = rw (dt, dm, dr, d) (record {
+  first = λ n. standing pl pr pn (f .second) (m .second n);
+  second = λ n. standing ql qr qn (f .first) (m .first n);
+  fails = λ n. rw (none-in (f .first .path) (m .first n .stays), none-in (f .second .path) (m .second n .stays)) (m .fails n);
+  none = λ e x w p y o q a b. rw (empty p (a .long), empty q (b .long)) (m .none e y o x w (b .has) (a .has));
+})
+  where
+    none-in : (r : Route) → Shaped 0 r → linksIn r ≡ []
+    none-in r h = rw (h .long)
 
-      empty : (p : List ℕ) → length p ≡ 0 → p ≡ []
-      empty [] e = refl
-      empty (k ∷ p) e = absurd (omega arith)
+    empty : (p : List ℕ) → length p ≡ 0 → p ≡ []
+    empty [] e = refl
+    empty (k ∷ p) e = absurd (omega arith)
 
-      standing : (ls rs : List ℕ) (n : ℕ) (t : Tail) → Standing ls rs n t → Tailed v ls rs n 0 t
-      standing ls rs n t h = record { shaped = h .stays; runs = rw (none-in (t .path) (h .stays)) (record { has = h .has; trail = tt; long = refl }) }
+    standing : (ls rs : List ℕ) (n : ℕ) (t : Tail) → Standing ls rs n t → Tailed v ls rs n 0 t
+    standing ls rs n t h = record { shaped = h .stays; runs = rw (none-in (t .path) (h .stays)) (record { has = h .has; trail = tt; long = refl }) }
 
-  -- a tip fails with no first path of i links; with no second path of j links
-  abbrev pub NoFirst : ℕ → ℕ → ℕ → Type 0
-  NoFirst i y o = (x w : ℕ) (p : List ℕ) → Runs v pl pr pn i x w p → fault ea eb (endOf v x p) (endsOver v u z w p) y o ≡ 0
+-- the one goes no further, so the other does
+pub turn-searched : (v u : View) (z ea eb pl pr : List ℕ) (pn : ℕ) (ql qr : List ℕ) (qn rest : ℕ) (f : Found)
+    → Searched v u z ea eb true ql qr qn rest pl pr pn 0 f → (turned : Bool) → turned ≡ false → (more : ℕ) → more ≡ 0 → (r : Found) → r ≡ exchange f
+    → Searched v u z ea eb turned pl pr pn more ql qr qn rest r
+unfolding faultOf
+turn-searched v u z ea eb pl pr pn ql qr qn rest f h turned dt more dm r d = rw (dt, dm, d) (record {
+  first = h .second;
+  second = h .first;
+  fails = h .fails;
+  none = λ e x w p y o q a b. h .none e y o q x w p b a;
+})
 
-  abbrev pub NoSecond : ℕ → ℕ → ℕ → Type 0
-  NoSecond j x w = (y o : ℕ) (q : List ℕ) → Runs v ql qr qn j y o q → fault ea eb x w (endOf v y q) (endsOver v u z o q) ≡ 0
+-- the links to come, each twice, and one for the turn
+unfoldable pub weight : ℕ → ℕ → Bool → ℕ
+weight more rest turned = more + rest + (more + rest) + cond turned 0 1
 
-  module _ (i j : ℕ) (f : Found) (e : f .kind ≡ 0) where
-    nothing-found : ((x w : ℕ) (p : List ℕ) (y o : ℕ) (q : List ℕ) → Runs v pl pr pn i x w p → Runs v ql qr qn j y o q → between v u z ea eb x w p y o q ≡ 0)
-        → Searched v u z ea eb pl pr pn ql qr qn i j f
-    nothing-found h = record { first = λ n. absurd (n e); second = λ n. absurd (n e); fails = λ n. absurd (n e); none = λ _. h }
+pub turn-less : (more rest t : ℕ) (turned : Bool) → weight more rest turned ≡ t → turned ≡ false → weight rest 0 true < t
+unfolding weight
+turn-less more rest t true e d = never (sym d)
+turn-less more rest t false e d = omega arith
 
-    second-cleared : Clears v u z ql qr qn j (NoFirst i) → Searched v u z ea eb pl pr pn ql qr qn i j f
-    second-cleared c = nothing-found (λ x w p y o q a b. c .each y o q b x w p a)
+pub link-less : (more rest t : ℕ) (turned : Bool) → weight more rest turned ≡ t → (more ≡ 0 → ⊥) → weight (more - 1) rest turned < t
+unfolding weight
+link-less more rest t turned e n = omega (arith, pos-of-ne-zero n)
 
-    first-cleared : Clears v u z pl pr pn i (NoSecond j) → Searched v u z ea eb pl pr pn ql qr qn i j f
-    first-cleared c = nothing-found (λ x w p y o q a b. c .each x w p a y o q b)
+-- a tip fails with no path of j links from the other table
+abbrev NoOther : View → View → List ℕ → List ℕ → List ℕ → Bool → List ℕ → List ℕ → ℕ → ℕ → ℕ → ℕ → Type 0
+NoOther v u z ea eb turned ql qr qn j x w = (y o : ℕ) (q : List ℕ) → Runs v ql qr qn j y o q → faultOf ea eb turned x w (endOf v y q) (endsOver v u z o q) ≡ 0
 
--- ---- the loop over second paths: every path by a class and a label before a place is cleared
-abbrev pub SecondsTo : View → View → List ℕ → List ℕ → List ℕ → List ℕ → List ℕ → ℕ → List ℕ → List ℕ → ℕ → List ℕ → ℕ → ℕ → ℕ → ℕ → Type 0
-SecondsTo v u z ea eb pl pr pn ql qr qn labels many i d at = Below v u z labels many ql qr qn at d (NoFirst v u z ea eb pl pr pn ql qr qn i)
+no-other-passes : (v u : View) (z ea eb : List ℕ) (turned : Bool) (ql qr : List ℕ) (qn j : ℕ) → Passes (NoOther v u z ea eb turned ql qr qn j)
+unfolding faultOf
+no-other-passes v u z ea eb true ql qr qn j x w w′ k h y o q a = fault-inside ea eb _ _ _ x w w′ (inside-refl _) k (h y o q a)
+no-other-passes v u z ea eb false ql qr qn j x w w′ k h y o q a = fault-inside ea eb x w w′ _ _ _ k (inside-refl _) (h y o q a)
 
-abbrev pub FirstsTo : View → View → List ℕ → List ℕ → List ℕ → List ℕ → List ℕ → ℕ → List ℕ → List ℕ → ℕ → List ℕ → ℕ → ℕ → ℕ → ℕ → Type 0
-FirstsTo v u z ea eb pl pr pn ql qr qn labels many j d at = Below v u z labels many pl pr pn at d (NoSecond v u z ea eb pl pr pn ql qr qn j)
+-- ---- the loop over the parts one link further than a table: every path by a class and a label before a place is cleared
+abbrev pub ClearedTo : View → View → List ℕ → List ℕ → List ℕ → Bool → List ℕ → List ℕ → ℕ → List ℕ → List ℕ → ℕ → ℕ → List ℕ → ℕ → ℕ → ℕ → Type 0
+ClearedTo v u z ea eb turned pl pr pn ql qr qn j labels many d at = Below v u z labels many pl pr pn at d (NoOther v u z ea eb turned ql qr qn j)
 
-module _ (v u : View) (z ea eb pl pr : List ℕ) (pn : ℕ) (ql qr : List ℕ) (qn : ℕ) (labels : List ℕ) (many : ℕ) where
-  pub seconds-start : (i d : ℕ) → SecondsTo v u z ea eb pl pr pn ql qr qn labels many i d 0
-  seconds-start i d = below-start v u z labels many ql qr qn d _
+module _ (v u : View) (z ea eb : List ℕ) (turned : Bool) (pl pr : List ℕ) (pn : ℕ) (ql qr : List ℕ) (qn j : ℕ) (labels : List ℕ) (many : ℕ) where
+  pub cleared-start : (d : ℕ) → ClearedTo v u z ea eb turned pl pr pn ql qr qn j labels many d 0
+  cleared-start d = below-start v u z labels many pl pr pn d _
 
-  pub firsts-start : (j d : ℕ) → FirstsTo v u z ea eb pl pr pn ql qr qn labels many j d 0
-  firsts-start j d = below-start v u z labels many pl pr pn d _
+  pub cleared-end : Opened (v .starts) (v .to) → Named (v .starts) (v .labels) labels many → (at rest : ℕ) → (rest ≡ 0 → ⊥) → (f : Found) → f .kind ≡ 0
+      → 128 * many ≤ at → pn ≤ 128 → ClearedTo v u z ea eb turned pl pr pn ql qr qn j labels many (rest - 1) at
+      → Searched v u z ea eb turned pl pr pn rest ql qr qn j f
+  cleared-end o names at rest pos f e l few b = record {
+    first = λ n. absurd (n e);
+    second = λ n. absurd (n e);
+    fails = λ n. absurd (n e);
+    none = λ _ x w p y o′ q a c. below-end v u z labels many pl pr pn (rest - 1) _ at b o names few l rest refl pos .each x w p a y o′ q c;
+  }
 
-  module _ (o : Opened (v .starts) (v .to)) (names : Named (v .starts) (v .labels) labels many) (at rest : ℕ) (pos : rest ≡ 0 → ⊥) (f : Found) (e : f .kind ≡ 0) (l : 128 * many ≤ at) where
-    pub seconds-end : (i : ℕ) → qn ≤ 128 → SecondsTo v u z ea eb pl pr pn ql qr qn labels many i (rest - 1) at → Searched v u z ea eb pl pr pn ql qr qn i rest f
-    seconds-end i few b =
-        second-cleared v u z ea eb pl pr pn ql qr qn i rest f e (below-end v u z labels many ql qr qn (rest - 1) _ at b o names few l rest refl pos)
+  module _ (at : ℕ) (ls₀ rs₀ ls rs : List ℕ) (p : Part) (f : Found) (rest : ℕ) (g : Filled v u z labels many pl pr pn at ls₀ rs₀ 0 ls rs p)
+      (h : Searched v u z ea eb turned ls rs (p .count) (rest - 1) ql qr qn j f) where
+    pub cleared-next : f .kind ≡ 0 → ClearedTo v u z ea eb turned pl pr pn ql qr qn j labels many (rest - 1) at
+        → ClearedTo v u z ea eb turned pl pr pn ql qr qn j labels many (rest - 1) (p .next)
+    cleared-next e b =
+        below-next v u z labels many pl pr pn (rest - 1) _ at b (no-other-passes v u z ea eb turned ql qr qn j) ls₀ rs₀ ls rs p g
+        (record { each = λ x w p r y o q a. h .none e x w p y o q r a })
 
-    pub firsts-end : (j : ℕ) → pn ≤ 128 → FirstsTo v u z ea eb pl pr pn ql qr qn labels many j (rest - 1) at → Searched v u z ea eb pl pr pn ql qr qn rest j f
-    firsts-end j few b =
-        first-cleared v u z ea eb pl pr pn ql qr qn rest j f e (below-end v u z labels many pl pr pn (rest - 1) _ at b o names few l rest refl pos)
-
-  module _ (at : ℕ) (ls₀ rs₀ ls rs : List ℕ) (p : Part) (f : Found) (rest : ℕ) where
-    module _ (i : ℕ) (g : Filled v u z labels many ql qr qn at ls₀ rs₀ 0 ls rs p) (h : Searched v u z ea eb pl pr pn ls rs (p .count) i (rest - 1) f) where
-      pub seconds-next : f .kind ≡ 0 → SecondsTo v u z ea eb pl pr pn ql qr qn labels many i (rest - 1) at
-          → SecondsTo v u z ea eb pl pr pn ql qr qn labels many i (rest - 1) (p .next)
-      seconds-next e b =
-          below-next v u z labels many ql qr qn (rest - 1) _ at b (λ y o o′ k h x w p a. fault-inside ea eb _ _ _ y o o′ (inside-refl _) k (h x w p a)) ls₀ rs₀ ls rs p g (record { each = λ y o q r x w p a. h .none e x w p y o q a r })
-
-      pub second-found : (n : f .kind ≡ 0 → ⊥) (pos : rest ≡ 0 → ⊥) (s : Origin) → Comes v u z ql qr qn (f .second .cell) (f .second .word) s → (r : Tail)
-          → Prepended s (f .second) r → (f′ : Found) → f′ .kind ≡ f .kind → f′ .first ≡ f .first → f′ .second ≡ r
-          → Searched v u z ea eb pl pr pn ql qr qn i rest f′
-      second-found n pos s c r b f′ dk df ds =
-          let on = prepended v u z ls rs (p .count) ql qr qn rest pos (f .second) (h .second n) s c r b in
-          rw (dk, df, ds) (record {
-            first = λ _. h .first n;
-            second = λ _. on .tailed;
-            fails = λ _. rw (on .end, on .word) (h .fails n);
-            none = λ e. absurd (n e);
-          })
-
-    module _ (j : ℕ) (g : Filled v u z labels many pl pr pn at ls₀ rs₀ 0 ls rs p) (h : Searched v u z ea eb ls rs (p .count) ql qr qn (rest - 1) j f) where
-      pub firsts-next : f .kind ≡ 0 → FirstsTo v u z ea eb pl pr pn ql qr qn labels many j (rest - 1) at
-          → FirstsTo v u z ea eb pl pr pn ql qr qn labels many j (rest - 1) (p .next)
-      firsts-next e b =
-          below-next v u z labels many pl pr pn (rest - 1) _ at b (λ x w w′ k h y o q a. fault-inside ea eb x w w′ _ _ _ k (inside-refl _) (h y o q a)) ls₀ rs₀ ls rs p g (record { each = λ x w p r y o q a. h .none e x w p y o q r a })
-
-      pub first-found : (n : f .kind ≡ 0 → ⊥) (pos : rest ≡ 0 → ⊥) (s : Origin) → Comes v u z pl pr pn (f .first .cell) (f .first .word) s → (r : Tail)
-          → Prepended s (f .first) r → (f′ : Found) → f′ .kind ≡ f .kind → f′ .first ≡ r → f′ .second ≡ f .second
-          → Searched v u z ea eb pl pr pn ql qr qn rest j f′
-      first-found n pos s c r b f′ dk df ds =
-          let on = prepended v u z ls rs (p .count) pl pr pn rest pos (f .first) (h .first n) s c r b in
-          rw (dk, df, ds) (record {
-            first = λ _. on .tailed;
-            second = λ _. h .second n;
-            fails = λ _. rw (on .end, on .word) (h .fails n);
-            none = λ e. absurd (n e);
-          })
+    pub pair-found : (n : f .kind ≡ 0 → ⊥) (pos : rest ≡ 0 → ⊥) (s : Origin) → Comes v u z pl pr pn (f .first .cell) (f .first .word) s → (r : Tail)
+        → Prepended s (f .first) r → (f′ : Found) → f′ .kind ≡ f .kind → f′ .first ≡ r → f′ .second ≡ f .second
+        → Searched v u z ea eb turned pl pr pn rest ql qr qn j f′
+    pair-found n pos s c r b f′ dk df ds =
+        let on = prepended v u z ls rs (p .count) pl pr pn rest pos (f .first) (h .first n) s c r b in
+        rw (dk, df, ds) (record {
+          first = λ _. on .tailed;
+          second = λ _. h .second n;
+          fails = λ _. rw (on .end, on .word) (h .fails n);
+          none = λ e. absurd (n e);
+        })
 
 -- ---- the table with the one tip (x, {y})
 module _ (ls rs : List ℕ) (x y a b : ℕ) (da : a ≡ 2 ^ x) (db : b ≡ 2 ^ y) (low : x < 64) (ll : length ls ≡ 128) (lr : length rs ≡ 128) where
   pub sought : (v u : View) (z ea eb : List ℕ) (i j : ℕ) (f : Found)
-      → Searched v u z ea eb (set ls 0 a) (set rs 0 b) 1 (set ls 0 a) (set rs 0 b) 1 i j f
+      → Searched v u z ea eb false (set ls 0 a) (set rs 0 b) 1 i (set ls 0 a) (set rs 0 b) 1 j f
       → (r : Pair) → r .kind ≡ f .kind → r .first ≡ f .first .path → r .second ≡ f .second .path → Sought v u z ea eb x y i j r
-  unfolding failure alone fault
+  unfolding failure alone fault faultOf
   sought v u z ea eb i j f h r dk dp dq =
       rw (dk, dp, dq) (record {
         first = λ n. path (f .first) i (h .first n);

@@ -1,5 +1,5 @@
 -- Paths from the tips of a table: what the search for two of them without counterpart answers.
-use mathlib.Core.Bool.{So}
+use mathlib.Core.Bool.{Bool, So, cond}
 use mathlib.Core.Path.{_≡_}
 use mathlib.Core.List.{List, _∷_}
 use Prim.Native.Nat.{ℕ, _+_, _-_, _≤_, _<_}
@@ -66,18 +66,27 @@ pub record Tailed (v : View) (ls rs : List ℕ) (n d : ℕ) (t : Tail) : Type 0 
   pub shaped : Shaped d (t .path)
   pub runs : Runs v ls rs n d (t .cell) (t .word) (linksIn (t .path))
 
+-- The kind by which the tips (x, w) and (y, o) fail, the second of them taken for the first where they are turned.
+unfoldable pub faultOf : List ℕ → List ℕ → Bool → ℕ → ℕ → ℕ → ℕ → ℕ
+faultOf ea eb turned x w y o = cond turned (fault ea eb y o x w) (fault ea eb x w y o)
+
 -- The kind by which the paths p and q, from the tips (x, w) and (y, o), fail.
-abbrev pub between : View → View → List ℕ → List ℕ → List ℕ → ℕ → ℕ → List ℕ → ℕ → ℕ → List ℕ → ℕ
-between v u z ea eb x w p y o q = fault ea eb (endOf v x p) (endsOver v u z w p) (endOf v y q) (endsOver v u z o q)
+abbrev pub between : View → View → List ℕ → List ℕ → List ℕ → Bool → ℕ → ℕ → List ℕ → ℕ → ℕ → List ℕ → ℕ
+between v u z ea eb turned x w p y o q = faultOf ea eb turned (endOf v x p) (endsOver v u z w p) (endOf v y q) (endsOver v u z o q)
 
 -- Two paths that fail, of i links from a tip of one table and of j links from a tip of another, or that there are none.
-pub record Searched (v u : View) (z ea eb pl pr : List ℕ) (pn : ℕ) (ql qr : List ℕ) (qn i j : ℕ) (f : Found) : Type 0 where
+pub record Searched (v u : View) (z ea eb : List ℕ) (turned : Bool) (pl pr : List ℕ) (pn i : ℕ) (ql qr : List ℕ) (qn j : ℕ) (f : Found) : Type 0 where
   pub first : (f .kind ≡ 0 → ⊥) → Tailed v pl pr pn i (f .first)
   pub second : (f .kind ≡ 0 → ⊥) → Tailed v ql qr qn j (f .second)
   pub fails : (f .kind ≡ 0 → ⊥)
-      → f .kind ≡ between v u z ea eb (f .first .cell) (f .first .word) (linksIn (f .first .path)) (f .second .cell) (f .second .word) (linksIn (f .second .path))
+      → f .kind
+      ≡ between v u z ea eb turned (f .first .cell) (f .first .word) (linksIn (f .first .path)) (f .second .cell) (f .second .word) (linksIn (f .second .path))
   pub none : f .kind ≡ 0 → (x w : ℕ) (p : List ℕ) (y o : ℕ) (q : List ℕ) → Runs v pl pr pn i x w p → Runs v ql qr qn j y o q
-      → between v u z ea eb x w p y o q ≡ 0
+      → between v u z ea eb turned x w p y o q ≡ 0
+
+-- The same two paths, in the other order.
+abbrev pub exchange : Found → Found
+exchange f = record { kind = f .kind; first = f .second; second = f .first }
 
 -- What the search asks: two books' lists, the labels of the first, and tables that have room.
 pub record Seeking (sa la ta sb tb labels : List ℕ) (many pn qn : ℕ) : Type 0 where

@@ -1,11 +1,12 @@
 // The search for two paths without counterpart, in one direction: from cell x of the first book, with cell y of the other for its partner.
 // The loops over the first and the second path run over classes of paths that no test of the search can tell apart.
+ghost use mathlib.Core.Bool.{true};
 ghost use mathlib.Core.Path.{_≡_};
 ghost use Prim.Native.Nat.{_≤_, _<_};
 ghost use Rattle.hops.specs.Hops.{viewOf};
 ghost use Rattle.classes.specs.declared.Origin.{Origin};
 ghost use Rattle.routes.specs.Pairs.{wantedOf, missing, classFault, Clashed, Partner, Asked, Sought};
-ghost use Rattle.routes.specs.Tails.{tailAt, Prepended, Meeting, Picked, Met, Seeking, Searched};
+ghost use Rattle.routes.specs.Tails.{tailAt, Prepended, Meeting, Picked, Met, exchange, Seeking, Searched};
 use classes::Origin;
 
 // What a class of first paths asks of a class of second ones for one comparison: the ends that pass with one of its own, and the other book's
@@ -210,94 +211,22 @@ pub fn two_tips(
     pick(ea, c.kind, pl[p], pr[p], ql[q], qr[q])
 }
 
-// Two paths without counterpart: the first with no links further than the classes of one table, the second with `rest` links further than those
-// of another.
-fn second(
-    sa: &[u16; 65],
-    la: &[u16; 512],
-    ta: &[u8; 512],
-    ea: &[u64; 128],
-    sb: &[u16; 65],
-    lb: &[u16; 512],
-    tb: &[u8; 512],
-    eb: &[u64; 128],
-    z: &[u64; 64],
-    labels: &[u16; 512],
-    many: usize,
-    pl: &[u64; 128],
-    pr: &[u64; 128],
-    pn: usize,
-    ql: &[u64; 128],
-    qr: &[u64; 128],
-    qn: usize,
-    rest: u8,
-) -> Found
-    requires { ⌜ Seeking (now sa) (now la) (now ta) (now sb) (now tb) (now labels) many pn qn × (rest ≤ 4) ⌝ }
-    ensures { λ r. ⌜ Searched (viewOf (now (sa .entry)) (now (la .entry)) (now (ta .entry))) (viewOf (now (sb .entry)) (now (lb .entry)) (now (tb .entry))) (now (z .entry)) (now (ea .entry)) (now (eb .entry)) (now (pl .entry)) (now (pr .entry)) pn (now (ql .entry)) (now (qr .entry)) qn 0 rest r ⌝ }
+// The same two paths, in the other order.
+fn exchanged(f: Found) -> Found
+    ensures { λ r. ⌜ r ≡ exchange f ⌝ }
 {
-    if rest == 0 {
-        return two_tips(ea, eb, pl, pr, pn, ql, qr, qn);
+    let first = f.second;
+    let second = f.first;
+    Found {
+        kind: f.kind,
+        first,
+        second,
     }
-    let mut l = [0u64; 128];
-    let mut r = [0u64; 128];
-    let mut at = 0;
-    while at < 128 * many {
-        let part = classes::fill(
-            sa,
-            la,
-            ta,
-            sb,
-            lb,
-            tb,
-            z,
-            labels,
-            many,
-            ql,
-            qr,
-            qn,
-            at,
-            &mut l,
-            &mut r,
-            0,
-        );
-        let f = second(
-            sa,
-            la,
-            ta,
-            ea,
-            sb,
-            lb,
-            tb,
-            eb,
-            z,
-            labels,
-            many,
-            pl,
-            pr,
-            pn,
-            &l,
-            &r,
-            part.count,
-            rest - 1,
-        );
-        if f.kind != 0 {
-            let t = f.second;
-            let first = f.first;
-            let s = classes::back(sa, la, ta, sb, lb, tb, z, ql, qr, qn, t.cell, t.word);
-            return Found {
-                kind: f.kind,
-                first,
-                second: behind(s, t),
-            };
-        }
-        at = part.next;
-    }
-    nothing()
 }
 
-// Two paths without counterpart: the first with `more` links further than the classes of one table, the second with `rest` links further than
-// those of another.
-fn first(
+// Two paths without counterpart: one with `more` links further than the classes of the table p, the other with `rest` links further than those
+// of the table q. The one is the first of the two, or the second where they are turned; then the other goes no further.
+fn seek(
     sa: &[u16; 65],
     la: &[u16; 512],
     ta: &[u8; 512],
@@ -312,17 +241,21 @@ fn first(
     pl: &[u64; 128],
     pr: &[u64; 128],
     pn: usize,
+    more: u8,
     ql: &[u64; 128],
     qr: &[u64; 128],
     qn: usize,
-    more: u8,
     rest: u8,
+    turned: bool,
 ) -> Found
-    requires { ⌜ Seeking (now sa) (now la) (now ta) (now sb) (now tb) (now labels) many pn qn × (more ≤ 4) × (rest ≤ 4) ⌝ }
-    ensures { λ r. ⌜ Searched (viewOf (now (sa .entry)) (now (la .entry)) (now (ta .entry))) (viewOf (now (sb .entry)) (now (lb .entry)) (now (tb .entry))) (now (z .entry)) (now (ea .entry)) (now (eb .entry)) (now (pl .entry)) (now (pr .entry)) pn (now (ql .entry)) (now (qr .entry)) qn more rest r ⌝ }
+    requires { ⌜ Seeking (now sa) (now la) (now ta) (now sb) (now tb) (now labels) many pn qn × (more ≤ 4) × (rest ≤ 4) × (turned ≡ true → rest ≡ 0) ⌝ }
+    ensures { λ r. ⌜ Searched (viewOf (now (sa .entry)) (now (la .entry)) (now (ta .entry))) (viewOf (now (sb .entry)) (now (lb .entry)) (now (tb .entry))) (now (z .entry)) (now (ea .entry)) (now (eb .entry)) turned (now (pl .entry)) (now (pr .entry)) pn more (now (ql .entry)) (now (qr .entry)) qn rest r ⌝ }
 {
     if more == 0 {
-        return second(
+        if turned {
+            return exchanged(two_tips(ea, eb, ql, qr, qn, pl, pr, pn));
+        }
+        return exchanged(seek(
             sa,
             la,
             ta,
@@ -334,14 +267,16 @@ fn first(
             z,
             labels,
             many,
-            pl,
-            pr,
-            pn,
             ql,
             qr,
             qn,
             rest,
-        );
+            pl,
+            pr,
+            pn,
+            0,
+            true,
+        ));
     }
     let mut l = [0u64; 128];
     let mut r = [0u64; 128];
@@ -365,7 +300,7 @@ fn first(
             &mut r,
             0,
         );
-        let f = first(
+        let f = seek(
             sa,
             la,
             ta,
@@ -380,11 +315,12 @@ fn first(
             &l,
             &r,
             part.count,
+            more - 1,
             ql,
             qr,
             qn,
-            more - 1,
             rest,
+            turned,
         );
         if f.kind != 0 {
             let t = f.first;
@@ -434,7 +370,7 @@ pub fn two_paths(
     let mut rights = [0u64; 128];
     lefts[0] = words::only(x);
     rights[0] = words::only(y);
-    let f = first(
+    let f = seek(
         sa,
         la,
         ta,
@@ -449,11 +385,12 @@ pub fn two_paths(
         &lefts,
         &rights,
         1,
+        i,
         &lefts,
         &rights,
         1,
-        i,
         j,
+        false,
     );
     let p = f.first;
     let q = f.second;

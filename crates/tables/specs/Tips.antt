@@ -59,7 +59,7 @@ pub record Narrowed (ls rs : List ℕ) (n cells w : ℕ) (ls′ : List ℕ) : Ty
   pub sound : (y o : ℕ) → Has ls′ rs n y o → Has ls rs n y o
   pub kept : (y o : ℕ) → Has ls rs n y o → Has ls′ rs n y o ⊎ (So (bit cells y) × Inside w o × (o ≡ w → ⊥))
 
--- The table covers what it had and the tips of the nodes with the set w, or it was full and is as it was.
+-- The table has nothing but what it had and tips of the nodes with the set w. It covers what it had, and unless it was full, all those tips.
 pub record Put (ls rs : List ℕ) (n cells w : ℕ) (ls′ rs′ : List ℕ) (g : Grown) : Type 0 where
   pub room : Room ls′ rs′ (g .count)
   pub few : g .count ≤ n + 1

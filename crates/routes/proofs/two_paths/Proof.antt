@@ -1,3 +1,4 @@
+use mathlib.Core.Bool.{false≢true}
 use mathlib.Core.Path.{refl}
 use lib.ListN.{replicate}
 use Rattle.routes.proofs.Loops.{sought}
@@ -20,11 +21,11 @@ only-requires-2 c κs = search needs
 array-write-rights : tie.Need-array-write-rights
 array-write-rights c = search needs
 
-first-requires : tie.Need-first-requires
-first-requires c κs = search needs
+seek-requires : tie.Need-seek-requires
+seek-requires c κs = (search needs, search needs, search needs, λ e. absurd (false≢true e))
 
 returns : tie.Need-returns
-returns c = sought (replicate 128 0) (replicate 128 0) _ _ _ _ (c .before .before .before .before .before .before .before .before .before .before .before .only .ensures) (c .before .before .before .before .before .before .before .before .before .before .only2 .ensures) (c .before .before .before .before .before .before .before .before .before .before .before .before .before .before .pre .cell) refl refl _ _ _ _ _ _ _ _ (c .before .before .before .before .first .ensures) _ refl refl refl
+returns c = sought (replicate 128 0) (replicate 128 0) _ _ _ _ (c .before .before .before .before .before .before .before .before .before .before .before .only .ensures) (c .before .before .before .before .before .before .before .before .before .before .only2 .ensures) (c .before .before .before .before .before .before .before .before .before .before .before .before .before .before .pre .cell) refl refl _ _ _ _ _ _ _ _ (c .before .before .before .before .seek .ensures) _ refl refl refl
 
 pub two-paths-spec : {M : Type 1} → statement M
 two-paths-spec =
@@ -35,5 +36,5 @@ two-paths-spec =
     array-write-lefts
     only-requires-2
     array-write-rights
-    first-requires
+    seek-requires
     returns)
