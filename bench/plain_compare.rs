@@ -121,7 +121,9 @@ const TIPS: usize = 64;
 /// How often a part was full, for the tests.
 pub static FULL: AtomicUsize = AtomicUsize::new(0);
 
-/// How often no two classes of a table of all lengths clash, how often some do, and how often it was full, for the tests.
+/// How often one tip a cell told that a pair stays; and where it did not, how often no two classes of a table of all lengths clash, how
+/// often some do, and how often it was full, for the tests.
+pub static BY_CELLS: AtomicUsize = AtomicUsize::new(0);
 pub static QUIET: AtomicUsize = AtomicUsize::new(0);
 pub static CLASHED: AtomicUsize = AtomicUsize::new(0);
 pub static UNKNOWN: AtomicUsize = AtomicUsize::new(0);
@@ -213,6 +215,15 @@ impl Table {
         }
         self.lefts[e] |= cells;
         self.rights[e] = w;
+    }
+
+    /// Puts the tip (y, o) into class y, which is for no other cell: where it has a tip already, the set is cut with o.
+    fn cut(&mut self, y: usize, o: u64) {
+        self.rights[y] = match self.lefts[y] {
+            0 => o,
+            _ => self.rights[y] & o,
+        };
+        self.lefts[y] = 1 << y;
     }
 
     /// Takes the cells out of each class whose set is wider than w.
@@ -520,8 +531,30 @@ impl<const PLACES: usize> Search<'_, PLACES> {
         Some(table)
     }
 
+    /// A table with one tip a cell tells that no two paths of at most `bound` links from x are without counterpart from y: the tip's set
+    /// is inside those of all paths to the cell.
+    fn by_cells(&self, x: usize, y: usize, bound: usize) -> bool {
+        let mut table = Table::empty();
+        table.count = 64;
+        table.cut(x, 1 << y);
+        for _ in 0..bound {
+            let old = table.clone();
+            for cell in (0..64).filter(|&cell| old.lefts[cell] != 0) {
+                for k in self.one.starts[cell]..self.one.starts[cell + 1] {
+                    let to = self.one.to[k as usize] as usize;
+                    table.cut(to, self.step(old.rights[cell], k));
+                }
+            }
+        }
+        self.two_tips(&table, &table).is_none()
+    }
+
     /// A table tells that no two paths of at most `bound` links from x are without counterpart from y.
     fn none_fails(&self, x: usize, y: usize, bound: usize) -> bool {
+        if self.by_cells(x, y, bound) {
+            BY_CELLS.fetch_add(1, Ordering::Relaxed);
+            return true;
+        }
         let clash = self
             .covering(x, y, bound)
             .map(|table| self.two_tips(&table, &table).is_some());

@@ -343,7 +343,7 @@ fn dense(tally: &mut Tally, random: &mut Random) {
     }
 }
 
-/// Compares a dense book of so many cells and labels with a renumbered copy, and with a damaged one.
+/// Compares a dense book of so many cells and labels with a renumbered copy, with a damaged one, and with one in which cells are split.
 fn ask_dense(tally: &mut Tally, random: &mut Random, cells: usize, labels: usize, bound: usize) {
     let out = if bound == 3 { 12 } else { 6 };
     let kinds = random.between(1, 3);
@@ -356,5 +356,7 @@ fn ask_dense(tally: &mut Tally, random: &mut Random, cells: usize, labels: usize
     let other = renumbered(random, &book);
     ask(tally, random, &book, &other, bound, TENS, SOME_CLAIMS);
     let other = damaged(random, &other);
+    ask(tally, random, &book, &other, bound, TENS, SOME_CLAIMS);
+    let other = split(random, &book, cells / 4, 20);
     ask(tally, random, &book, &other, bound, TENS, SOME_CLAIMS);
 }

@@ -19,7 +19,7 @@ use Rattle.hops.specs.Hops.{View, startOf, labelOf, toOf, total, hopsOf, Opened
 use Rattle.hops.specs.Sets.{reached, imageOf, rowAt}
 use Rattle.tables.specs.declared.Grown.{Grown}
 use Rattle.tables.specs.Tips.{Has, Covered, Room, Grew}
-use Rattle.tables.specs.Laws.{covered-by-has, covered-trans}
+use Rattle.tables.specs.Laws.{equal-or, covered-by-has, covered-trans}
 use Rattle.classes.specs.declared.Stretch.{Stretch}
 use Rattle.classes.specs.declared.Part.{Part}
 use Rattle.classes.specs.declared.Origin.{Origin}
@@ -67,10 +67,6 @@ module _ (v u : View) (z : List ℕ) (x w y o : ℕ) where
           none = λ h. absurd (omega arith);
         }
 
--- where the links out of a node end
-pub until-few : (starts to : List ℕ) (x e : ℕ) → Opened starts to → x < 64 → e ≡ getD starts (x + 1) 0 → e ≤ 512
-until-few starts to x e o l d = omega (arith, o .few, o .within (x + 1) (omega arith))
-
 -- a link is the label and the node that it leads to
 pub leading-is : (u : View) (z : List ℕ) (w a t y o s : ℕ) → t ≡ y → s ≡ stepWord u z w a y → eqb s o ≡ leading u z w a t y o
 unfolding leading
@@ -81,13 +77,6 @@ unfolding leading
 leading-off u z w a t y o n = rw (ne-eqb t y n)
 
 -- ---- two numbers are equal, or not
-equal-or : (i j : ℕ) → (i ≡ j) ⊎ (i ≡ j → ⊥)
-equal-or i j = by (eqb i j) refl
-  where
-    by : (b : Bool) → eqb i j ≡ b → (i ≡ j) ⊎ (i ≡ j → ⊥)
-    by true e = inl (eqb-true i j e)
-    by false e = inr (λ q. false≢true (sym e ∙ eq-eqb i j q))
-
 -- ---- labels: each link passed has its label in the list
 pub record Naming (labels list : List ℕ) (count k : ℕ) : Type 0 where
   pub long : length list ≡ 512

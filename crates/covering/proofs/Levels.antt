@@ -1,14 +1,21 @@
--- The table that covers the tips of all paths of at most k links: what each turn and the way out show. Assumes nothing.
+-- Tables that cover the tips of all paths of at most k links: what each turn and each way out show. Assumes nothing.
+use mathlib.Core.Bool.{So}
 use mathlib.Core.Path.{_≡_, refl, sym, ap, _∙_}
-use mathlib.Core.Logic.{⊎-elim}
+use mathlib.Core.Logic.{_⊎_, inl, inr, ⊎-elim}
 use mathlib.Core.List.{List, [], _∷_}
 use Prim.Native.Nat.{ℕ, zero, suc, _+_, _*_, _^_, _≤_, _<_}
 use native.Mathlib.Nat.{eq-or-lt-of-le}
 use native.Mathlib.Omega.{arith}
-use lib.ListN.{length, getD, set, length-set}
-use Rattle.hops.specs.Hops.{View, labelOf, toOf, Opened}
-use Rattle.tables.specs.Tips.{Covered, Room}
-use Rattle.tables.specs.Laws.{covered-by-has, covered-wider, covered-trans, one-has}
+use borrow.Author.Tests.{eqb-true, eq-eqb}
+use lib.Bits.{bitAnd}
+use lib.ListN.{length, getD, set, length-set, replicate, getD-replicate}
+use lib.Seq.{getD-set-same, getD-set-other}
+use Rattle.theory.specs.Tests.{never, and-iff}
+use Rattle.words.specs.Words.{bit, Inside}
+use Rattle.words.specs.Laws.{bit-zero, bit-pow, bit-and}
+use Rattle.hops.specs.Hops.{View, startOf, labelOf, toOf, Opened}
+use Rattle.tables.specs.Tips.{Has, Covered, Room}
+use Rattle.tables.specs.Laws.{equal-or, inside-refl, covered-by-has, covered-wider, covered-trans, one-has}
 use Rattle.classes.specs.declared.Part.{Part}
 use Rattle.classes.specs.Paths.{Leaves, Trail, endOf, stepWord, endsOver}
 use Rattle.classes.specs.Tables.{Named, Filled}
@@ -17,7 +24,7 @@ use Rattle.routes.specs.declared.Found.{Found}
 use Rattle.routes.specs.Pairs.{fault, failure, alone}
 use Rattle.routes.specs.Laws.{fault-inside}
 use Rattle.routes.specs.Tails.{Met}
-use Rattle.covering.specs.Covering.{NoneFails}
+use Rattle.covering.specs.Covering.{Celled, Cut, Beyond, Onward, NoneFails}
 
 -- ---- the last link of a path
 module _ (v u : View) (z : List ℕ) where
@@ -49,6 +56,146 @@ module _ (v u : View) (z : List ℕ) where
         word = h .word;
       }
 
+-- ---- tables with one class a cell
+pub celled-room : (ls rs : List ℕ) → Celled ls rs → Room ls rs 64
+celled-room ls rs h = record { left = h .left; right = h .right; few = omega arith }
+
+pub celled-none : (ls rs : List ℕ) → ls ≡ replicate 128 0 → rs ≡ replicate 128 0 → Celled ls rs
+celled-none ls rs dl dr = record {
+  left = ap length dl;
+  right = ap length dr;
+  only = λ e x l i. never (sym (bit-zero x) ∙ ap (λ (w : ℕ). bit w x) (sym (zeros e l)) ∙ i);
+}
+  where
+    zeros : (e : ℕ) → e < 64 → getD ls e 0 ≡ 0
+    zeros e l = rw dl (getD-replicate 128 e 0 0 (omega arith))
+
+-- the tip (y, s) is put in class y: s is inside o, and inside the set that was there, if there was one
+module _ (ls rs : List ℕ) (y o l s : ℕ) (h : Celled ls rs) (low : y < 64) (dl : l ≡ 2 ^ y) (i : Inside s o) (j : (getD ls y 0 ≡ 0) ⊎ Inside s (getD rs y 0)) where
+  own-left : getD (set ls y l) y 0 ≡ 2 ^ y
+  own-left = getD-set-same ls y l 0 (omega (arith, h .left)) ∙ dl
+
+  own-has : Has (set ls y l) (set rs y s) 64 y s
+  own-has = record {
+    class = y;
+    below = low;
+    cell = low;
+    inside = ap (λ (w : ℕ). bit w y) own-left ∙ bit-pow y y ∙ eq-eqb y y refl;
+    word = getD-set-same rs y s 0 (omega (arith, h .right));
+  }
+
+  cut-celled : Celled (set ls y l) (set rs y s)
+  cut-celled = record {
+    left = length-set ls y l ∙ h .left;
+    right = length-set rs y s ∙ h .right;
+    only = λ e x m b. ⊎-elim
+        (λ q. sym (eqb-true y x (sym (bit-pow y x) ∙ ap (λ (w : ℕ). bit w x) (sym own-left) ∙ rw q at b)) ∙ sym q)
+        (λ q. h .only e x m (rw (getD-set-other ls y e l 0 q) at b))
+        (equal-or e y);
+  }
+
+  cut-kept : (x w : ℕ) → Has ls rs 64 x w → Covered (set ls y l) (set rs y s) 64 x w
+  cut-kept x w g =
+      ⊎-elim
+      (λ q.
+      let d : x ≡ y = h .only (g .class) x (g .below) (g .inside) ∙ q in
+      ⊎-elim
+      (λ z. never (sym (bit-zero x) ∙ ap (λ (w : ℕ). bit w x) (sym z) ∙ rw q at (g .inside)))
+      (λ k. rw d (record { word = s; has = own-has; inside = rw (← g .word, q) k }))
+      j)
+      (λ q. covered-by-has _ _ _ x w (record {
+        class = g .class;
+        below = g .below;
+        cell = g .cell;
+        inside = rw (getD-set-other ls y (g .class) l 0 q) (g .inside);
+        word = getD-set-other rs y (g .class) s 0 q ∙ g .word;
+      }))
+      (equal-or (g .class) y)
+
+  cut-shown : Cut ls rs y o (set ls y l) (set rs y s)
+  cut-shown = record { celled = cut-celled; kept = cut-kept; new = record { word = s; has = own-has; inside = i } }
+
+module _ (ls rs : List ℕ) (y o l : ℕ) (h : Celled ls rs) (low : y < 64) (dl : l ≡ 2 ^ y) where
+  pub cut-first : getD ls y 0 ≡ 0 → Cut ls rs y o (set ls y l) (set rs y o)
+  cut-first z = cut-shown ls rs y o l o h low dl (inside-refl o) (inl z)
+
+  pub cut-again : (s : ℕ) → s ≡ bitAnd (getD rs y 0) o → Cut ls rs y o (set ls y l) (set rs y s)
+  cut-again s ds = cut-shown ls rs y o l s h low dl (part (λ k a b. b)) (inr (part (λ k a b. a)))
+    where
+      part : {w : ℕ} → ((i : ℕ) → So (bit (getD rs y 0) i) → So (bit o i) → So (bit w i)) → Inside s w
+      part f = record { each = λ i b. let (p, q) = and-iff _ _ .0 (sym (bit-and (getD rs y 0) o i) ∙ ap (λ (w : ℕ). bit w i) (sym ds) ∙ b) in f i p q }
+
+-- ---- the links out of a node: the tips by those passed are covered
+pub link-low : (starts to : List ℕ) (x k e : ℕ) → Opened starts to → x < 64 → e ≡ getD starts (x + 1) 0 → k < e → getD to k 0 < 64
+link-low starts to x k e o l d m = o .low k (omega (arith, o .within (x + 1) (omega arith)))
+
+pub record Passed (v u : View) (z : List ℕ) (x w : ℕ) (ls rs ls′ rs′ : List ℕ) (k : ℕ) : Type 0 where
+  pub celled : Celled ls′ rs′
+  pub kept : (a o : ℕ) → Has ls rs 64 a o → Covered ls′ rs′ 64 a o
+  pub whole : (j : ℕ) → Leaves v x j → j < k → Covered ls′ rs′ 64 (toOf v j) (stepWord u z w (labelOf v j) (toOf v j))
+
+module _ (v u : View) (z : List ℕ) (x w : ℕ) (ls rs : List ℕ) where
+  pub passed-start : Celled ls rs → (k : ℕ) → k ≡ startOf v x → Passed v u z x w ls rs ls rs k
+  passed-start h k d = record { celled = h; kept = covered-by-has ls rs 64; whole = λ j l m. absurd (omega (arith, l .from)) }
+
+  module _ (ls′ rs′ : List ℕ) (k : ℕ) (h : Passed v u z x w ls rs ls′ rs′ k) where
+    pub passed-next : (o : ℕ) → o ≡ stepWord u z w (labelOf v k) (toOf v k) → (ls″ rs″ : List ℕ) → Cut ls′ rs′ (toOf v k) o ls″ rs″
+        → Passed v u z x w ls rs ls″ rs″ (k + 1)
+    passed-next o d ls″ rs″ c = record {
+      celled = c .celled;
+      kept = λ a e g. on (h .kept a e g);
+      whole = λ j l m. ⊎-elim (λ q. rw q (rw d at (c .new))) (λ s. on (h .whole j l s)) (eq-or-lt-of-le (at-most k j m));
+    }
+      where
+        at-most : (n j : ℕ) → j < n + 1 → j ≤ n
+        at-most n j m = omega arith
+
+        on : {a e : ℕ} → Covered ls′ rs′ 64 a e → Covered ls″ rs″ 64 a e
+        on = covered-trans ls′ rs′ 64 ls″ rs″ 64 (c .kept) _ _
+
+    pub passed-end : (e : ℕ) → e ≡ startOf v (x + 1) → e ≤ k → Beyond v u z x w ls rs ls′ rs′
+    passed-end e d l = record { celled = h .celled; kept = h .kept; whole = λ j i. h .whole j i (omega (arith, i .until)) }
+
+-- ---- the cells of a table: the tips beyond those of the classes passed are covered
+module _ (v u : View) (z l r ls rs : List ℕ) where
+  pub onward-start : Celled ls rs → Onward v u z l r 0 ls rs ls rs
+  onward-start h = record { celled = h; kept = covered-by-has ls rs 64; whole = λ a o k g. absurd (omega (arith, g .below)) }
+
+  pub onward-end : (n : ℕ) (ls′ rs′ : List ℕ) → Onward v u z l r n ls rs ls′ rs′ → 64 ≤ n → n ≤ 64 → Onward v u z l r 64 ls rs ls′ rs′
+  onward-end n ls′ rs′ h a b = let d : 64 ≡ n = omega arith in rw d h
+
+  module _ (n : ℕ) (ls′ rs′ : List ℕ) (h : Onward v u z l r n ls rs ls′ rs′) (c : Celled l r) (low : n < 64) where
+    -- a tip of one class more is of that class or was passed
+    split : (a o : ℕ) → Has l r (n + 1) a o → ((a ≡ n) × (getD r n 0 ≡ o) × So (bit (getD l n 0) n)) ⊎ Has l r n a o
+    split a o g =
+        ⊎-elim
+        (λ q. let d : a ≡ n = c .only (g .class) a (omega (arith, g .below)) (g .inside) ∙ q in inl (d, rw q at (g .word), rw (q, d) at (g .inside)))
+        (λ s. inr (record { class = g .class; below = s; cell = g .cell; inside = g .inside; word = g .word }))
+        (eq-or-lt-of-le (at-most n (g .class) (g .below)))
+      where
+        at-most : (n j : ℕ) → j < n + 1 → j ≤ n
+        at-most n j m = omega arith
+
+    pub onward-skip : getD l n 0 ≡ 0 → Onward v u z l r (n + 1) ls rs ls′ rs′
+    onward-skip e = record {
+      celled = h .celled;
+      kept = h .kept;
+      whole = λ a o k g t. ⊎-elim
+          (λ (_, _, i). never (sym (bit-zero n) ∙ ap (λ (w : ℕ). bit w n) (sym e) ∙ i))
+          (λ g. h .whole a o k g t)
+          (split a o g);
+    }
+
+    pub onward-next : (ls″ rs″ : List ℕ) → Beyond v u z n (getD r n 0) ls′ rs′ ls″ rs″ → Onward v u z l r (n + 1) ls rs ls″ rs″
+    onward-next ls″ rs″ b = record {
+      celled = b .celled;
+      kept = λ a o g. on (h .kept a o g);
+      whole = λ a o k g t. ⊎-elim (λ (d, e, _). rw (← e) (b .whole k (rw d at t))) (λ g. on (h .whole a o k g t)) (split a o g);
+    }
+      where
+        on : {a e : ℕ} → Covered ls′ rs′ 64 a e → Covered ls″ rs″ 64 a e
+        on = covered-trans ls′ rs′ 64 ls″ rs″ 64 (b .kept) _ _
+
 -- The table covers the tips of all paths of at most k links from x.
 pub record Reached (v u : View) (z : List ℕ) (x y k : ℕ) (ls rs : List ℕ) (n : ℕ) : Type 0 where
   pub room : Room ls rs n
@@ -68,31 +215,50 @@ module _ (v u : View) (z : List ℕ) (x y : ℕ) where
       none [] l = covered-by-has _ _ _ x (2 ^ y) (one-has ls rs x y a b da db low ll lr)
       none (j ∷ p) l = absurd (omega arith)
 
+  -- and so does a table with a class a cell that covers it
+  pub reached-cut : (ls rs : List ℕ) (b : ℕ) → b ≡ 2 ^ y → (ls′ rs′ : List ℕ) → Cut ls rs x b ls′ rs′ → Reached v u z x y 0 ls′ rs′ 64
+  unfolding endOf endsOver
+  reached-cut ls rs b d ls′ rs′ c = record { room = celled-room ls′ rs′ (c .celled); each = λ p t l. none p l }
+    where
+      none : (p : List ℕ) → length p ≤ 0 → Covered ls′ rs′ 64 (endOf v x p) (endsOver v u z (2 ^ y) p)
+      none [] l = rw (← d) (c .new)
+      none (j ∷ p) l = absurd (omega arith)
+
   module _ (k : ℕ) (ls rs : List ℕ) (n : ℕ) (h : Reached v u z x y k ls rs n) where
     -- a table that covers those of this one and all one link beyond them covers those of one link more
+    reached-more : (ls′ rs′ : List ℕ) (n′ : ℕ) → Room ls′ rs′ n′ → ((a w : ℕ) → Has ls rs n a w → Covered ls′ rs′ n′ a w)
+        → ((a w j : ℕ) → Has ls rs n a w → Leaves v a j → Covered ls′ rs′ n′ (toOf v j) (stepWord u z w (labelOf v j) (toOf v j)))
+        → Reached v u z x y (k + 1) ls′ rs′ n′
+    reached-more ls′ rs′ n′ room kept beyond = record {
+      room = room;
+      each = λ p t l. ⊎-elim (λ e. longer p t e) (λ s. covered-trans ls rs n _ _ _ kept _ _ (h .each p t (omega arith))) (eq-or-lt-of-le l);
+    }
+      where
+        longer : (p : List ℕ) → Trail v x p → length p ≡ k + 1 → Covered ls′ rs′ n′ (endOf v x p) (endsOver v u z (2 ^ y) p)
+        longer p t e = by (last v u z x (2 ^ y) k p t (omega arith))
+          where
+            -- a link beyond a tip that is covered
+            on : (a w j : ℕ) → Covered ls rs n a w → Leaves v a j → Covered ls′ rs′ n′ (toOf v j) (stepWord u z w (labelOf v j) (toOf v j))
+            on a w j g t = covered-wider _ _ _ _ _ _ (beyond a (g .word) j (g .has) t) (step-inside u z (g .word) w (labelOf v j) (toOf v j) (g .inside))
+
+            by : Last v u z x (2 ^ y) k p → Covered ls′ rs′ n′ (endOf v x p) (endsOver v u z (2 ^ y) p)
+            by s = rw (s .end, s .word) (on _ _ (s .link) (h .each (s .front) (s .trail) (omega (arith, s .long))) (s .leaves))
+
     pub reached-next : Opened (v .starts) (v .to) → (labels : List ℕ) (many : ℕ) → Named (v .starts) (v .labels) labels many
         → (ls′ rs′ : List ℕ) (p : Part) → Filled v u z labels many ls rs n 0 ls rs n ls′ rs′ p → 128 * many ≤ p .next
         → Reached v u z x y (k + 1) ls′ rs′ (p .count)
-    reached-next o labels many names ls′ rs′ part f all = record {
-      room = f .room;
-      each = λ p t l. ⊎-elim (λ e. longer p t e) (λ s. covered-trans ls rs n _ _ _ (f .kept) _ _ (h .each p t (omega arith))) (eq-or-lt-of-le l);
-    }
+    reached-next o labels many names ls′ rs′ part f all = reached-more ls′ rs′ (part .count) (f .room) (f .kept) beyond
       where
-        -- a link beyond a tip that is covered
-        beyond : (a w j : ℕ) → Covered ls rs n a w → Leaves v a j → Covered ls′ rs′ (part .count) (toOf v j) (stepWord u z w (labelOf v j) (toOf v j))
+        beyond : (a w j : ℕ) → Has ls rs n a w → Leaves v a j → Covered ls′ rs′ (part .count) (toOf v j) (stepWord u z w (labelOf v j) (toOf v j))
         beyond a w j g t =
-            let (i, b, c) = names .each j (leaves-below v o a j (g .has .cell) t) in
-            covered-wider _ _ _ (toOf v j) (stepWord u z (getD rs (g .has .class) 0) (labelOf v j) (toOf v j)) _
-            (f .whole (g .has .class) i a j
-            (record { class = g .has .below; label = b; cell = g .has .cell; inside = g .has .inside; leaves = t; named = sym c })
-            (omega arith) (omega (arith, g .has .below, h .room .few)))
-            (step-inside u z _ w (labelOf v j) (toOf v j) (rw (g .has .word) (g .inside)))
+            let (i, b, c) = names .each j (leaves-below v o a j (g .cell) t) in
+            rw (← g .word) (f .whole (g .class) i a j
+            (record { class = g .below; label = b; cell = g .cell; inside = g .inside; leaves = t; named = sym c })
+            (omega arith) (omega (arith, g .below, h .room .few)))
 
-        longer : (p : List ℕ) → Trail v x p → length p ≡ k + 1 → Covered ls′ rs′ (part .count) (endOf v x p) (endsOver v u z (2 ^ y) p)
-        longer p t e = by (last v u z x (2 ^ y) k p t (omega arith))
-          where
-            by : Last v u z x (2 ^ y) k p → Covered ls′ rs′ (part .count) (endOf v x p) (endsOver v u z (2 ^ y) p)
-            by s = rw (s .end, s .word) (beyond _ _ (s .link) (h .each (s .front) (s .trail) (omega (arith, s .long))) (s .leaves))
+    pub reached-onward : (ls′ rs′ : List ℕ) → n ≡ 64 → Onward v u z ls rs 64 ls rs ls′ rs′ → Reached v u z x y (k + 1) ls′ rs′ 64
+    reached-onward ls′ rs′ d f =
+        reached-more ls′ rs′ 64 (celled-room ls′ rs′ (f .celled)) (λ a w g. f .kept a w (rw d at g)) (λ a w j g t. f .whole a w j (rw d at g) t)
 
     -- where no two tips of the table fail, no two paths do
     pub reached-none : (c : ℕ) → c ≤ k → (ea eb : List ℕ) (f : Found) → Met ea eb ls rs n ls rs n f → f .kind ≡ 0 → NoneFails v u z ea eb x y c

@@ -1,13 +1,120 @@
-// A quick decision for most pairs that stay: one table that covers the tips of all paths of at most c links. Where no two of its tips fail, no
-// two paths do, of whatever lengths.
+// Quick decisions for pairs that stay: a table that covers the tips of all paths of at most c links. Where no two of its tips fail, no two paths do,
+// of whatever lengths.
 ghost use mathlib.Core.Bool.{true};
 ghost use mathlib.Core.Path.{_≡_};
-ghost use Rattle.hops.specs.Hops.{viewOf};
+ghost use Prim.Native.Nat.{_<_};
+ghost use Rattle.hops.specs.Hops.{viewOf, Opened};
 ghost use Rattle.routes.specs.Pairs.{Asked};
-ghost use Rattle.covering.specs.Covering.{NoneFails};
+ghost use Rattle.covering.specs.Covering.{Celled, Cut, Beyond, Onward, NoneFails};
 
-// True only where no two paths of at most c links from x fail. It is false where two do, and where the table is too small to tell.
-pub fn none_fails(
+// Puts the tip (y, o) into a table with a class a cell: where it has a tip of y already, that one's set is cut with o.
+fn cut(lefts: &mut [u64; 128], rights: &mut [u64; 128], y: u8, o: u64)
+    requires { ⌜ Celled (now lefts) (now rights) × (y < 64) ⌝ }
+    ensures { λ _. ⌜ Cut (now (lefts .entry)) (now (rights .entry)) y o (now (lefts .exit)) (now (rights .exit)) ⌝ }
+{
+    let own = words::only(y);
+    let e = y as usize;
+    if lefts[e] == 0 {
+        lefts[e] = own;
+        rights[e] = o;
+        return;
+    }
+    let set = words::meet(rights[e], o);
+    lefts[e] = own;
+    rights[e] = set;
+}
+
+// Puts the tips one link beyond the tip (x, w) into such a table.
+fn cut_links(
+    sa: &[u16; 65],
+    la: &[u16; 512],
+    ta: &[u8; 512],
+    sb: &[u16; 65],
+    lb: &[u16; 512],
+    tb: &[u8; 512],
+    z: &[u64; 64],
+    x: u8,
+    w: u64,
+    lefts: &mut [u64; 128],
+    rights: &mut [u64; 128],
+)
+    requires { ⌜ Opened (now sa) (now ta) × Opened (now sb) (now tb) × (x < 64) × Celled (now lefts) (now rights) ⌝ }
+    ensures { λ _. ⌜ Beyond (viewOf (now (sa .entry)) (now (la .entry)) (now (ta .entry))) (viewOf (now (sb .entry)) (now (lb .entry)) (now (tb .entry))) (now (z .entry)) x w (now (lefts .entry)) (now (rights .entry)) (now (lefts .exit)) (now (rights .exit)) ⌝ }
+{
+    let until = sa[x as usize + 1];
+    let mut k = sa[x as usize];
+    while k < until {
+        let y = ta[k as usize];
+        let o = classes::step(sb, lb, tb, z, w, la[k as usize], y);
+        cut(lefts, rights, y, o);
+        k += 1;
+    }
+}
+
+// Puts the tips one link beyond those of a table with a class a cell into another.
+fn cut_cells(
+    sa: &[u16; 65],
+    la: &[u16; 512],
+    ta: &[u8; 512],
+    sb: &[u16; 65],
+    lb: &[u16; 512],
+    tb: &[u8; 512],
+    z: &[u64; 64],
+    l: &[u64; 128],
+    r: &[u64; 128],
+    lefts: &mut [u64; 128],
+    rights: &mut [u64; 128],
+)
+    requires { ⌜ Opened (now sa) (now ta) × Opened (now sb) (now tb) × Celled (now l) (now r) × Celled (now lefts) (now rights) ⌝ }
+    ensures { λ _. ⌜ Onward (viewOf (now (sa .entry)) (now (la .entry)) (now (ta .entry))) (viewOf (now (sb .entry)) (now (lb .entry)) (now (tb .entry))) (now (z .entry)) (now (l .entry)) (now (r .entry)) 64 (now (lefts .entry)) (now (rights .entry)) (now (lefts .exit)) (now (rights .exit)) ⌝ }
+{
+    let mut next = 0u8;
+    while next < 64 {
+        let x = next;
+        let e = x as usize;
+        next += 1;
+        if l[e] != 0 {
+            cut_links(sa, la, ta, sb, lb, tb, z, x, r[e], lefts, rights);
+        }
+    }
+}
+
+// True only where no two paths of at most c links from x fail. It goes by one tip a cell: its set is what the sets of all tips of the cell have in
+// common, or less. It is false where two of these fail.
+fn by_cells(
+    sa: &[u16; 65],
+    la: &[u16; 512],
+    ta: &[u8; 512],
+    ea: &[u64; 128],
+    sb: &[u16; 65],
+    lb: &[u16; 512],
+    tb: &[u8; 512],
+    eb: &[u64; 128],
+    z: &[u64; 64],
+    x: u8,
+    y: u8,
+    c: u8,
+) -> bool
+    requires { ⌜ Asked (now sa) (now ta) (now sb) (now tb) x y c c ⌝ }
+    ensures { λ r. ⌜ ((r ≡ true) → NoneFails (viewOf (now (sa .entry)) (now (la .entry)) (now (ta .entry))) (viewOf (now (sb .entry)) (now (lb .entry)) (now (tb .entry))) (now (z .entry)) (now (ea .entry)) (now (eb .entry)) x y c) ⌝ }
+{
+    let mut lefts = [0u64; 128];
+    let mut rights = [0u64; 128];
+    cut(&mut lefts, &mut rights, x, words::only(y));
+    let mut k = 0u8;
+    while k < c {
+        let l = lefts;
+        let r = rights;
+        cut_cells(sa, la, ta, sb, lb, tb, z, &l, &r, &mut lefts, &mut rights);
+        k += 1;
+    }
+    let f = routes::two_tips(ea, eb, &lefts, &rights, 64, &lefts, &rights, 64);
+    f.kind == 0
+}
+
+// True only where no two paths of at most c links from x fail. It goes by the smallest sets of each cell. It is false where two of these tips
+// fail, and where the table is too small for all.
+fn by_classes(
     sa: &[u16; 65],
     la: &[u16; 512],
     ta: &[u8; 512],
@@ -62,4 +169,28 @@ pub fn none_fails(
     }
     let f = routes::two_tips(ea, eb, &lefts, &rights, n, &lefts, &rights, n);
     f.kind == 0
+}
+
+// True only where no two paths of at most c links from x fail. It is false where two do, and where neither table can tell.
+pub fn none_fails(
+    sa: &[u16; 65],
+    la: &[u16; 512],
+    ta: &[u8; 512],
+    ea: &[u64; 128],
+    sb: &[u16; 65],
+    lb: &[u16; 512],
+    tb: &[u8; 512],
+    eb: &[u64; 128],
+    z: &[u64; 64],
+    x: u8,
+    y: u8,
+    c: u8,
+) -> bool
+    requires { ⌜ Asked (now sa) (now ta) (now sb) (now tb) x y c c ⌝ }
+    ensures { λ r. ⌜ ((r ≡ true) → NoneFails (viewOf (now (sa .entry)) (now (la .entry)) (now (ta .entry))) (viewOf (now (sb .entry)) (now (lb .entry)) (now (tb .entry))) (now (z .entry)) (now (ea .entry)) (now (eb .entry)) x y c) ⌝ }
+{
+    if by_cells(sa, la, ta, ea, sb, lb, tb, eb, z, x, y, c) {
+        return true;
+    }
+    by_classes(sa, la, ta, ea, sb, lb, tb, eb, z, x, y, c)
 }

@@ -17,14 +17,7 @@ use Rattle.words.specs.Words.{bit, Inside, IsLowest, IsWithout, IsMinus}
 use Rattle.words.specs.Laws.{bit-zero, bit-or, bit-with, bit-without, first-least}
 use Rattle.tables.specs.declared.Grown.{Grown}
 use Rattle.tables.specs.Tips.{Has, Covered, Room, Rowmates, Rest, Placed, Joined, Narrowed, Put, Grew}
-use Rattle.tables.specs.Laws.{covered-by-has, covered-trans}
-
-equal-or : (i j : ℕ) → (i ≡ j) ⊎ (i ≡ j → ⊥)
-equal-or i j = by (eqb i j) refl
-  where
-    by : (b : Bool) → eqb i j ≡ b → (i ≡ j) ⊎ (i ≡ j → ⊥)
-    by true e = inl (eqb-true i j e)
-    by false e = inr (λ q. false≢true (sym e ∙ eq-eqb i j q))
+use Rattle.tables.specs.Laws.{equal-or, covered-by-has, covered-trans}
 
 -- the empty set has no cells
 none-in : {A : Type 0} (w x : ℕ) → w ≡ 0 → So (bit w x) → A

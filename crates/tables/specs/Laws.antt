@@ -1,14 +1,25 @@
 -- The laws of covering: sets inside of each other, and the tips that a table covers; and the table with one tip. Assumes nothing.
+use mathlib.Core.Bool.{Bool, true, false, false≢true}
 use mathlib.Core.List.{List}
+use mathlib.Core.Logic.{_⊎_, inl, inr}
 use mathlib.Core.Path.{_≡_, refl, sym, ap, _∙_}
 use Prim.Native.Nat.{ℕ, _^_, _<_}
 use native.Mathlib.Omega.{arith}
 use borrow.Author.Tests.{eqb-true, eq-eqb}
+use lib.Dec.{eqb}
 use lib.ListN.{length, getD, set}
 use lib.Seq.{getD-set-same}
 use Rattle.words.specs.Words.{bit, Inside}
 use Rattle.words.specs.Laws.{bit-pow}
 use Rattle.tables.specs.Tips.{Has, Covered}
+
+-- numbers are equal or not
+pub equal-or : (i j : ℕ) → (i ≡ j) ⊎ (i ≡ j → ⊥)
+equal-or i j = by (eqb i j) refl
+  where
+    by : (b : Bool) → eqb i j ≡ b → (i ≡ j) ⊎ (i ≡ j → ⊥)
+    by true e = inl (eqb-true i j e)
+    by false e = inr (λ q. false≢true (sym e ∙ eq-eqb i j q))
 
 -- a set is inside of itself, and of whatever holds a set that it is inside of
 pub inside-refl : (a : ℕ) → Inside a a

@@ -2,7 +2,8 @@ use mathlib.Core.Path.{_≡_}
 use lib.ListN.{getD}
 use Prim.Native.Nat.{_+_, _-_, _≤_, _<_}
 use Rattle.hops.specs.Hops.{viewOf, Opened}
-use Rattle.classes.proofs.Exits.{Free, free-start, free-next, free-end, link-found, until-few}
+use Rattle.classes.specs.Laws.{until-few}
+use Rattle.classes.proofs.Exits.{Free, free-start, free-next, free-end, link-found}
 use borrow.Author.Needs.{needs}
 use Rattle.classes.proofs.link_into.Statement.{statement}
 use Rattle.classes.proofs.link_into.Tie as tie
