@@ -531,6 +531,18 @@ impl<const PLACES: usize> Search<'_, PLACES> {
         Some(table)
     }
 
+    /// Puts the tips one link beyond the tip (cell, w) into a table with one tip a cell. Links with one label come one after another.
+    fn cut_links(&self, cell: usize, w: u64, table: &mut Table) {
+        let (mut known, mut image) = (0, self.other.image(w, 0));
+        for k in self.one.starts[cell] as usize..self.one.starts[cell + 1] as usize {
+            let (label, to) = (self.one.labels[k], self.one.to[k] as usize);
+            if label != known {
+                (known, image) = (label, self.other.image(w, label));
+            }
+            table.cut(to, image & self.related[to]);
+        }
+    }
+
     /// A table with one tip a cell tells that no two paths of at most `bound` links from x are without counterpart from y: the tip's set
     /// is inside those of all paths to the cell.
     fn by_cells(&self, x: usize, y: usize, bound: usize) -> bool {
@@ -540,10 +552,7 @@ impl<const PLACES: usize> Search<'_, PLACES> {
         for _ in 0..bound {
             let old = table.clone();
             for cell in (0..64).filter(|&cell| old.lefts[cell] != 0) {
-                for k in self.one.starts[cell]..self.one.starts[cell + 1] {
-                    let to = self.one.to[k as usize] as usize;
-                    table.cut(to, self.step(old.rights[cell], k));
-                }
+                self.cut_links(cell, old.rights[cell], &mut table);
             }
         }
         self.two_tips(&table, &table).is_none()

@@ -14,6 +14,7 @@ use Rattle.theory.specs.Tests.{never, and-iff}
 use Rattle.words.specs.Words.{bit, Inside}
 use Rattle.words.specs.Laws.{bit-zero, bit-pow, bit-and}
 use Rattle.hops.specs.Hops.{View, startOf, labelOf, toOf, Opened}
+use Rattle.hops.specs.Sets.{imageOf}
 use Rattle.tables.specs.Tips.{Has, Covered, Room}
 use Rattle.tables.specs.Laws.{equal-or, inside-refl, covered-by-has, covered-wider, covered-trans, one-has}
 use Rattle.classes.specs.declared.Part.{Part}
@@ -139,12 +140,13 @@ module _ (v u : View) (z : List ℕ) (x w : ℕ) (ls rs : List ℕ) where
   passed-start h k d = record { celled = h; kept = covered-by-has ls rs 64; whole = λ j l m. absurd (omega (arith, l .from)) }
 
   module _ (ls′ rs′ : List ℕ) (k : ℕ) (h : Passed v u z x w ls rs ls′ rs′ k) where
-    pub passed-next : (o : ℕ) → o ≡ stepWord u z w (labelOf v k) (toOf v k) → (ls″ rs″ : List ℕ) → Cut ls′ rs′ (toOf v k) o ls″ rs″
+    pub passed-next : (n o : ℕ) → n ≡ imageOf u w (labelOf v k) → o ≡ bitAnd n (getD z (toOf v k) 0) → (ls″ rs″ : List ℕ) → Cut ls′ rs′ (toOf v k) o ls″ rs″
         → Passed v u z x w ls rs ls″ rs″ (k + 1)
-    passed-next o d ls″ rs″ c = record {
+    unfolding stepWord
+    passed-next n o e d ls″ rs″ c = record {
       celled = c .celled;
       kept = λ a e g. on (h .kept a e g);
-      whole = λ j l m. ⊎-elim (λ q. rw q (rw d at (c .new))) (λ s. on (h .whole j l s)) (eq-or-lt-of-le (at-most k j m));
+      whole = λ j l m. ⊎-elim (λ q. rw q (rw (d, e) at (c .new))) (λ s. on (h .whole j l s)) (eq-or-lt-of-le (at-most k j m));
     }
       where
         at-most : (n j : ℕ) → j < n + 1 → j ≤ n

@@ -4,6 +4,7 @@ ghost use mathlib.Core.Bool.{true};
 ghost use mathlib.Core.Path.{_≡_};
 ghost use Prim.Native.Nat.{_<_};
 ghost use Rattle.hops.specs.Hops.{viewOf, Opened};
+ghost use Rattle.hops.specs.Sets.{imageOf};
 ghost use Rattle.routes.specs.Pairs.{Asked};
 ghost use Rattle.covering.specs.Covering.{Celled, Cut, Beyond, Onward, NoneFails};
 
@@ -24,7 +25,26 @@ fn cut(lefts: &mut [u64; 128], rights: &mut [u64; 128], y: u8, o: u64)
     rights[e] = set;
 }
 
-// Puts the tips one link beyond the tip (x, w) into such a table.
+// The cells that a link with the label leads to from a cell of w; those by another label, `known`, are at hand.
+fn image_by(
+    sb: &[u16; 65],
+    lb: &[u16; 512],
+    tb: &[u8; 512],
+    w: u64,
+    label: u16,
+    known: u16,
+    image: u64,
+) -> u64
+    requires { ⌜ Opened (now sb) (now tb) × (image ≡ imageOf (viewOf (now sb) (now lb) (now tb)) w known) ⌝ }
+    ensures { λ r. ⌜ r ≡ imageOf (viewOf (now (sb .entry)) (now (lb .entry)) (now (tb .entry))) w label ⌝ }
+{
+    if label == known {
+        return image;
+    }
+    hops::image(sb, lb, tb, w, label)
+}
+
+// Puts the tips one link beyond the tip (x, w) into such a table. Links with one label come one after another.
 fn cut_links(
     sa: &[u16; 65],
     la: &[u16; 512],
@@ -43,9 +63,13 @@ fn cut_links(
 {
     let until = sa[x as usize + 1];
     let mut k = sa[x as usize];
+    let mut label = 0u16;
+    let mut image = hops::image(sb, lb, tb, w, label);
     while k < until {
         let y = ta[k as usize];
-        let o = classes::step(sb, lb, tb, z, w, la[k as usize], y);
+        image = image_by(sb, lb, tb, w, la[k as usize], label, image);
+        label = la[k as usize];
+        let o = words::meet(image, z[y as usize]);
         cut(lefts, rights, y, o);
         k += 1;
     }

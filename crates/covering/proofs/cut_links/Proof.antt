@@ -5,16 +5,17 @@ use native.Mathlib.Omega.{arith}
 use borrow.Author.Needs.{needs}
 use lib.ListN.{getD}
 use Rattle.hops.specs.Hops.{viewOf, Opened}
+use Rattle.hops.specs.Sets.{imageOf}
 use Rattle.classes.specs.Laws.{until-few}
 use Rattle.covering.proofs.Levels.{link-low, Passed, passed-start, passed-next, passed-end}
 use Rattle.covering.proofs.cut_links.Statement.{statement}
 use Rattle.covering.proofs.cut_links.Tie as tie
 
 abbrev Inv-loop : tie.InvT-loop
-Inv-loop sa la ta sb lb tb z x w lefts₀ rights₀ until k₀ lefts rights k = Opened sa ta × Opened sb tb × (x < 64) × (until ≡ getD sa (x + 1) 0) × (until ≤ 512) × (getD sa x 0 ≤ k) × Passed (viewOf sa la ta) (viewOf sb lb tb) z x w lefts₀ rights₀ lefts rights k
+Inv-loop sa la ta sb lb tb z x w lefts₀ rights₀ until k₀ label₀ image₀ lefts rights k label image = Opened sa ta × Opened sb tb × (x < 64) × (until ≡ getD sa (x + 1) 0) × (until ≤ 512) × (getD sa x 0 ≤ k) × (image ≡ imageOf (viewOf sb lb tb) w label) × Passed (viewOf sa la ta) (viewOf sb lb tb) z x w lefts₀ rights₀ lefts rights k
 
 abbrev μ-loop : tie.MeasureT-loop
-μ-loop sa la ta sb lb tb z x w lefts₀ rights₀ until k₀ lefts rights k = until - k
+μ-loop sa la ta sb lb tb z x w lefts₀ rights₀ until k₀ label₀ image₀ lefts rights k label image = until - k
 
 add-until : tie.Need-add-until Inv-loop μ-loop
 add-until c = search needs
@@ -31,8 +32,11 @@ mul-k c = search needs
 element-copy-out-k : tie.Need-element-copy-out-k Inv-loop μ-loop
 element-copy-out-k c = search needs
 
+image-requires : tie.Need-image-requires Inv-loop μ-loop
+image-requires c κs = search needs
+
 loop-holds : tie.Need-loop-holds Inv-loop μ-loop
-loop-holds c = (search needs, search needs, search needs, search needs, search until-few, search needs, search passed-start)
+loop-holds c = (search needs, search needs, search needs, search needs, search until-few, search needs, search needs, search passed-start)
 
 cast-y : tie.Need-cast-y Inv-loop μ-loop
 cast-y c = search needs
@@ -40,17 +44,38 @@ cast-y c = search needs
 element-copy-out-y : tie.Need-element-copy-out-y Inv-loop μ-loop
 element-copy-out-y c = search needs
 
-cast-step : tie.Need-cast-step Inv-loop μ-loop
-cast-step c = search needs
+cast-image-by : tie.Need-cast-image-by Inv-loop μ-loop
+cast-image-by c = search needs
 
-mul-step : tie.Need-mul-step Inv-loop μ-loop
-mul-step c = search needs
+mul-image-by : tie.Need-mul-image-by Inv-loop μ-loop
+mul-image-by c = search needs
 
-element-copy-out-step : tie.Need-element-copy-out-step Inv-loop μ-loop
-element-copy-out-step c = search needs
+element-copy-out-image-by : tie.Need-element-copy-out-image-by Inv-loop μ-loop
+element-copy-out-image-by c = search needs
 
-step-requires : tie.Need-step-requires Inv-loop μ-loop
-step-requires c κs = (search needs, search link-low)
+image-by-requires : tie.Need-image-by-requires Inv-loop μ-loop
+image-by-requires c κs = search needs
+
+cast-label : tie.Need-cast-label Inv-loop μ-loop
+cast-label c = search needs
+
+mul-label : tie.Need-mul-label Inv-loop μ-loop
+mul-label c = search needs
+
+element-copy-out-label : tie.Need-element-copy-out-label Inv-loop μ-loop
+element-copy-out-label c = search needs
+
+cast-meet : tie.Need-cast-meet Inv-loop μ-loop
+cast-meet c = omega (arith, link-low _ _ _ _ _ (c .before .before .before .before .before .loop .inv .0) (c .before .before .before .before .before .loop .inv .2) (c .before .before .before .before .before .loop .inv .3) (c .before .before .before .before .loop-test .taken))
+
+mul-meet : tie.Need-mul-meet Inv-loop μ-loop
+mul-meet c = omega (arith, link-low _ _ _ _ _ (c .before .before .before .before .before .loop .inv .0) (c .before .before .before .before .before .loop .inv .2) (c .before .before .before .before .before .loop .inv .3) (c .before .before .before .before .loop-test .taken))
+
+element-copy-out-meet : tie.Need-element-copy-out-meet Inv-loop μ-loop
+element-copy-out-meet c = omega (arith, link-low _ _ _ _ _ (c .before .before .before .before .before .loop .inv .0) (c .before .before .before .before .before .loop .inv .2) (c .before .before .before .before .before .loop .inv .3) (c .before .before .before .before .loop-test .taken))
+
+meet-requires : tie.Need-meet-requires Inv-loop μ-loop
+meet-requires c κs = search needs
 
 cut-requires : tie.Need-cut-requires Inv-loop μ-loop
 cut-requires c κs = (search needs, search link-low)
@@ -62,7 +87,7 @@ loop-less : tie.Need-loop-less Inv-loop μ-loop
 loop-less c = search needs
 
 loop-again : tie.Need-loop-again Inv-loop μ-loop
-loop-again c = (search needs, search needs, search needs, search needs, search needs, omega arith, search passed-next)
+loop-again c = (search needs, search needs, search needs, search needs, search needs, omega arith, search needs, passed-next _ _ _ _ _ _ _ _ _ _ (c .before .before .before .before .before .before .before .before .before .before .loop .inv .7) _ _ (c .before .before .before .before .before .before .image-by .ensures) (c .before .before .before .meet .ensures) _ _ (c .cut .ensures))
 
 returns : tie.Need-returns Inv-loop μ-loop
 returns c = search passed-end
@@ -78,13 +103,21 @@ cut-links-spec =
     element-copy-out-until
     mul-k
     element-copy-out-k
+    image-requires
     loop-holds
     cast-y
     element-copy-out-y
-    cast-step
-    mul-step
-    element-copy-out-step
-    step-requires
+    cast-image-by
+    mul-image-by
+    element-copy-out-image-by
+    image-by-requires
+    cast-label
+    mul-label
+    element-copy-out-label
+    cast-meet
+    mul-meet
+    element-copy-out-meet
+    meet-requires
     cut-requires
     add-k
     loop-less
