@@ -1,10 +1,12 @@
 //! Compare on families of books at bounds 1 to 4: the library beside plain Rust of the same method, on the same inputs in one run.
 
+mod clock;
 mod families;
 mod plain_compare;
 #[path = "../tests/support/mod.rs"]
 mod support;
 
+use clock::running;
 use families::{hard, ordinary, Family};
 use std::hint::black_box;
 use std::time::Duration;
@@ -40,30 +42,6 @@ struct Lists {
 }
 
 type Compare = fn(&[u8], &[u8], usize, &mut [u16], &mut [u8], &mut [u8]) -> Outcome;
-
-#[repr(C)]
-struct Timespec {
-    seconds: i64,
-    nanoseconds: i64,
-}
-
-/// The clock of the time that the calling thread has run, on Linux.
-const THREAD_CPUTIME: i32 = 3;
-
-extern "C" {
-    fn clock_gettime(clock: i32, time: *mut Timespec) -> i32;
-}
-
-/// How long this thread has run. Other work on the machine does not count, unlike on a clock on the wall.
-fn running() -> Duration {
-    let mut time = Timespec {
-        seconds: 0,
-        nanoseconds: 0,
-    };
-    let failed = unsafe { clock_gettime(THREAD_CPUTIME, &mut time) };
-    assert_eq!(failed, 0);
-    Duration::new(time.seconds as u64, time.nanoseconds as u32)
-}
 
 /// The answer and the time of one call. All three lists are filled with ones before, outside of the time.
 fn timed(

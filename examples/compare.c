@@ -1,4 +1,5 @@
 /* Compares two book files and prints, for each old cell, its partners and the questions that part it from the other new cells.
+ * A question is written out in full, unless it is too long to be read.
  *
  *     cc -I include examples/compare.c target/staticlib/libcapi.a -o compare
  *     ./compare 1 examples/a-left.book examples/a-right.book
@@ -13,6 +14,7 @@ enum { CELLS = 64, BOOK = 8 + 4 * CELLS + 3 * 512, PAIRS = CELLS * CELLS };
 static uint8_t left[BOOK + 1], right[BOOK + 1]; /* a byte more, so that a longer file is seen to be one */
 static uint16_t map[PAIRS];
 static uint8_t room[10 + 44 * PAIRS], scratch[16 * PAIRS];
+static uint8_t text[1000]; /* a longer question is not printed */
 
 static size_t load(const char *name, uint8_t *bytes)
 {
@@ -24,6 +26,22 @@ static size_t load(const char *name, uint8_t *bytes)
     }
     fclose(file);
     return size;
+}
+
+/* Prints a question of the sheet in the room. Entries that are named twice are written twice, so a text may have gigabytes: its length
+ * is asked first. */
+static void print_question(size_t sheet_len, size_t entry)
+{
+    uint64_t answer = cuhnavel_question_length(room, sheet_len, entry);
+    uint32_t length = CUHNAVEL_LENGTH(answer);
+    if (CUHNAVEL_REFUSAL(answer) != 0)
+        printf("a text that is refused: %u\n", CUHNAVEL_REFUSAL(answer));
+    else if (length > sizeof text)
+        printf("a text of %u bytes\n", length);
+    else {
+        cuhnavel_question_text(room, sheet_len, entry, text, sizeof text);
+        printf("%.*s\n", (int)length, (const char *)text);
+    }
 }
 
 int main(int count, char **words)
@@ -52,8 +70,10 @@ int main(int count, char **words)
             uint64_t pair = cuhnavel_pair(map, n * m, i * m + j, room, sheet_len);
             if (CUHNAVEL_FIRST(pair) == 0)
                 printf("old %zu and new %zu are matched\n", i, j);
-            else
-                printf("old %zu and new %zu are parted by question %u, at byte %u of the sheet\n", i, j, CUHNAVEL_FIRST(pair), CUHNAVEL_SECOND(pair));
+            else {
+                printf("old %zu and new %zu are parted by question %u, at byte %u of the sheet: ", i, j, CUHNAVEL_FIRST(pair), CUHNAVEL_SECOND(pair));
+                print_question(sheet_len, CUHNAVEL_FIRST(pair));
+            }
         }
     return 0;
 }

@@ -7,8 +7,8 @@
  * An answer is one number: refusal + 2^8 x part + 2^16 x first + 2^40 x second.
  *   refusal  0: accepted; else the number of the first refusal that applies
  *   part     what a refusal speaks of (CUHNAVEL_CALL and the names after it); 0 if accepted
- *   first,   the two values that the function gives, below 2^24 each; 0 if refused
- *   second
+ *   first,   the two values that the function gives, below 2^24 each; 0 if refused. The length of a text, which may have 32 bits,
+ *   second   takes both: CUHNAVEL_LENGTH.
  */
 #ifndef CUHNAVEL_H
 #define CUHNAVEL_H
@@ -25,6 +25,9 @@ extern "C" {
 #define CUHNAVEL_PART(answer) ((uint32_t)((uint64_t)(answer) >> 8 & 0xff))
 #define CUHNAVEL_FIRST(answer) ((uint32_t)((uint64_t)(answer) >> 16 & 0xffffff))
 #define CUHNAVEL_SECOND(answer) ((uint32_t)((uint64_t)(answer) >> 40))
+
+/* The length of a text, of 32 bits: first + 2^24 x second. */
+#define CUHNAVEL_LENGTH(answer) ((uint32_t)((uint64_t)(answer) >> 16))
 
 /* The parts that a refusal speaks of. */
 #define CUHNAVEL_CALL 0       /* the call itself */
@@ -139,6 +142,31 @@ uint64_t cuhnavel_pair(const uint16_t *map, size_t map_len, size_t place, const 
  *   26 the cell is not in the book, part CUHNAVEL_CALL
  */
 uint64_t cuhnavel_links(const uint8_t *book, size_t book_len, size_t cell);
+
+/* The bytes of stack that cuhnavel_question_length and cuhnavel_question_text take at most, whatever they are asked: 164,008 and
+ * 278,792 as measured with the deepest questions, rounded up to multiples of 4,096. tests/stack runs them on just so much. */
+#define CUHNAVEL_QUESTION_LENGTH_STACK 167936
+#define CUHNAVEL_QUESTION_TEXT_STACK 282624
+
+/* Question length: how many bytes the text of an entry's question has that cuhnavel_question_text writes. Accepted: the answer
+ * is 2^16 x the length, which CUHNAVEL_LENGTH gives.
+ * Refused:
+ *   the sheet's refusal, as cuhnavel_check_sheet
+ * then, part CUHNAVEL_CALL:
+ *   25 entry is not below the sheet's number of entries
+ *   28 a chain of more than 1,024 references leads from the entry (a step refers to its test)
+ *   29 the length exceeds 4,294,967,295
+ * It takes at most CUHNAVEL_QUESTION_LENGTH_STACK bytes of stack.
+ */
+uint64_t cuhnavel_question_length(const uint8_t *sheet, size_t sheet_len, size_t entry);
+
+/* Question text: writes the question of an entry out in full, at the room's start, in ASCII: true <.>, not !(p), and (p&q),
+ * or (p|q), way <w>, same <w=v>, differ <w!=v>; a way is a dot if it has no steps, else its steps, each /label[p] with the label
+ * in base ten. Bytes after the text are as they were. The answer is that of cuhnavel_question_length; refused, last of all:
+ *   30 room_len is below the length, part CUHNAVEL_CALL
+ * It takes at most CUHNAVEL_QUESTION_TEXT_STACK bytes of stack.
+ */
+uint64_t cuhnavel_question_text(const uint8_t *sheet, size_t sheet_len, size_t entry, uint8_t *room, size_t room_len);
 
 #ifdef __cplusplus
 }

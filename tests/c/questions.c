@@ -3,6 +3,7 @@
 #include <stdio.h>
 
 #include "cuhnavel.h"
+#include "example_a.h"
 
 static void print(const char *name, uint64_t answer)
 {
@@ -20,17 +21,6 @@ static void print_words(const uint64_t *words, size_t count)
 
 int main(void)
 {
-    /* Document 01, example A: left, recordings 5, 5, 6, links (0,1,1), (0,1,2); right, recordings 5, 5, link (0,1,1). */
-    const uint8_t left[] = {
-        0, 0, 0, 26, 1, 3, 0, 2,
-        0, 0, 0, 5, 0, 0, 0, 5, 0, 0, 0, 6,
-        0, 1, 1, 0, 1, 2,
-    };
-    const uint8_t right[] = {
-        0, 0, 0, 19, 1, 2, 0, 1,
-        0, 0, 0, 5, 0, 0, 0, 5,
-        0, 1, 1,
-    };
     /* Bound 1; entry 0: true; entry 1: "differ: stay, step 1"; entry 2: not entry 1. */
     const uint8_t sheet[] = {
         0, 0, 0, 21, 1, 1, 0, 3,

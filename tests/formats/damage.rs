@@ -1,7 +1,7 @@
 //! Damaged and random inputs, alike for both formats.
 
 use crate::support::random::Random;
-use crate::support::set_length;
+use crate::support::{lend_zeros, set_length};
 use crate::tally::Tally;
 
 /// Each byte set to every value.
@@ -105,21 +105,11 @@ pub fn headers(tally: &mut Tally, byte_5: &[u8], bytes_6_7: &[u16], rest: &[u8])
     }
 }
 
-/// 2^32 bytes more than the length field says, all 0. Without room for so many addresses it is left out.
+/// 2^32 bytes more than the length field says, all 0.
 pub fn past_the_length_field(tally: &mut Tally, bytes: &[u8]) {
-    use std::alloc::{alloc_zeroed, dealloc, Layout};
-    let size = (1 << 32) + bytes.len();
-    let layout = Layout::array::<u8>(size).unwrap();
-    unsafe {
-        let start = alloc_zeroed(layout);
-        if start.is_null() {
-            println!("left out: an input of {size} bytes");
-            return;
-        }
-        let input = std::slice::from_raw_parts_mut(start, size);
+    lend_zeros((1 << 32) + bytes.len(), |input| {
         input[..bytes.len()].copy_from_slice(bytes);
         tally.agree_in_place(input);
         assert_eq!(&std::hint::black_box(&*input)[..bytes.len()], bytes);
-        dealloc(start, layout);
-    }
+    });
 }

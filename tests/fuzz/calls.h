@@ -15,4 +15,7 @@ void call_row(void);
 void call_pair(void);
 void call_links(void);
 
+/* Question length and question text. */
+void call_texts(void);
+
 #endif

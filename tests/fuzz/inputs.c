@@ -49,12 +49,16 @@ static size_t draw_book(uint8_t *bytes)
     return size;
 }
 
+static void put_number(uint8_t **at, size_t number)
+{
+    *(*at)++ = (uint8_t)(number >> 8);
+    *(*at)++ = (uint8_t)number;
+}
+
 /* The number of an entry before this one. */
 static void put_earlier(uint8_t **at, size_t entry)
 {
-    size_t number = one_in(3) ? entry - 1 : below(entry);
-    *(*at)++ = (uint8_t)(number >> 8);
-    *(*at)++ = (uint8_t)number;
+    put_number(at, one_in(3) ? entry - 1 : below(entry));
 }
 
 static void put_steps(uint8_t **at, size_t entry, size_t count)
@@ -97,6 +101,35 @@ static size_t draw_sheet(uint8_t *bytes)
     for (size_t entry = 0; entry < entries; entry++)
         size += put_entry(bytes + size, entry, bound);
     put_header(bytes, bound, entries);
+    set_length(bytes, size);
+    return size;
+}
+
+/* An entry that names the one before: a not or, if there are more kinds, an and, an or, or a way of one step. */
+static size_t put_next(uint8_t *bytes, size_t entry, size_t kinds)
+{
+    uint8_t *at = bytes + 1;
+    size_t kind = between(1, kinds);
+    *at++ = (uint8_t)kind;
+    if (kind == 4) {
+        *at++ = 1;
+        *at++ = (uint8_t)below(256);
+    }
+    put_number(&at, entry - 1);
+    if (kind == 2 || kind == 3)
+        put_earlier(&at, entry);
+    bytes[0] = (uint8_t)(at - bytes - 1);
+    return (size_t)(at - bytes);
+}
+
+/* An accepted sheet of a chain of many entries. */
+static size_t chain_sheet(uint8_t *bytes)
+{
+    size_t entries = between(1000, 2000), kinds = one_in(2) ? 1 : 4;
+    size_t size = 8 + put_entry(bytes + 8, 0, 0);
+    for (size_t entry = 1; entry < entries; entry++)
+        size += put_next(bytes + size, entry, kinds);
+    put_header(bytes, below(5), entries);
     set_length(bytes, size);
     return size;
 }
@@ -180,7 +213,9 @@ size_t any_sheet(uint8_t *bytes)
 {
     if (one_in(12))
         return any_bytes(bytes, one_in(50) ? LONGEST_SHEET : 2000);
-    return perhaps_damaged(bytes, one_in(400) ? most_entries(bytes) : draw_sheet(bytes));
+    if (one_in(40))
+        return perhaps_damaged(bytes, one_in(10) ? most_entries(bytes) : chain_sheet(bytes));
+    return perhaps_damaged(bytes, draw_sheet(bytes));
 }
 
 uint64_t most_ways(const uint8_t *book, size_t bound)

@@ -6,12 +6,12 @@
 #include "cuhnavel.h"
 #include "facts.h"
 
-/* The refusals that document 01 has for each function, a bit each: those of a book, of a sheet, and of the call. */
+/* The refusals that documents 01 and 02 have for each function, a bit each: those of a book, of a sheet, and of the call. */
 #define BIT(refusal) (UINT32_C(1) << (refusal))
 #define OF_BOOK (BIT(1) | BIT(2) | BIT(3) | BIT(4) | BIT(5) | BIT(6) | BIT(7))
 #define OF_SHEET (BIT(1) | BIT(2) | BIT(3) | BIT(8) | BIT(9) | BIT(10) | BIT(11) | BIT(12) | BIT(13) | BIT(14))
 
-enum { PARTS = 4, REFUSALS = 28 };
+enum { PARTS = 4, REFUSALS = 31 };
 
 static struct {
     const char *name;
@@ -27,6 +27,8 @@ static struct {
     [ROW_WORD] = {"row_word", {BIT(26) | BIT(27)}},
     [PAIR] = {"pair", {BIT(25) | BIT(26), 0, 0, OF_SHEET}},
     [LINKS] = {"links", {BIT(26), OF_BOOK}},
+    [QUESTION_LENGTH] = {"question_length", {BIT(25) | BIT(28) | BIT(29), 0, 0, OF_SHEET}},
+    [QUESTION_TEXT] = {"question_text", {BIT(25) | BIT(28) | BIT(29) | BIT(30), 0, 0, OF_SHEET}},
 };
 
 uint64_t counted(enum function function, uint64_t answer)
@@ -54,7 +56,7 @@ static bool report(enum function function)
             calls += times;
             all &= times > 0 || (functions[function].refusals[part] & BIT(refusal)) == 0;
         }
-    printf("  %-12s%9" PRIu64 " calls, %9" PRIu64 " accepted%s\n", functions[function].name, calls, functions[function].accepted,
+    printf("  %-16s%9" PRIu64 " calls, %9" PRIu64 " accepted%s\n", functions[function].name, calls, functions[function].accepted,
            all ? "" : "; an answer was never seen");
     return all;
 }

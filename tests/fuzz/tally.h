@@ -5,7 +5,20 @@
 #include <stdbool.h>
 #include <stdint.h>
 
-enum function { CHECK_BOOK, CHECK_SHEET, COMPARE, TRUTH, CLAIM, ROW, ROW_WORD, PAIR, LINKS, FUNCTIONS };
+enum function {
+    CHECK_BOOK,
+    CHECK_SHEET,
+    COMPARE,
+    TRUTH,
+    CLAIM,
+    ROW,
+    ROW_WORD,
+    PAIR,
+    LINKS,
+    QUESTION_LENGTH,
+    QUESTION_TEXT,
+    FUNCTIONS,
+};
 
 /* Counts an answer, and gives it. A refusal has to be one that the function can give, without values. */
 uint64_t counted(enum function function, uint64_t answer);

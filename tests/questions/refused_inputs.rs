@@ -4,7 +4,7 @@ use crate::expected::Asked;
 use crate::support::checks::check_sheet;
 use crate::support::counts::{OF_BOOK, OF_SHEET};
 use crate::support::random::Random;
-use crate::support::refusals::{book_refused, change_byte, sheet_refused};
+use crate::support::refusals::{beyond, book_refused, change_byte, or_none, sheet_refused};
 use crate::tally::Tally;
 
 pub fn all(tally: &mut Tally) {
@@ -13,11 +13,6 @@ pub fn all(tally: &mut Tally) {
     claim(tally, random);
     numbers(tally, random);
     damaged(tally, random);
-}
-
-/// 0 and the refusals.
-fn or_none(refusals: &[u8]) -> Vec<u8> {
-    [&[0], refusals].concat()
 }
 
 /// The field for the number of entries, as far as there is one.
@@ -53,26 +48,6 @@ fn truth(tally: &mut Tally, random: &mut Random) {
             }
         }
     }
-}
-
-/// A number just beyond a count or far beyond: also one whose low bits are in range.
-fn beyond(random: &mut Random, count: usize) -> usize {
-    let low = random.below(count);
-    random
-        .pick(&[
-            count,
-            count + 1,
-            64,
-            255,
-            256 + low,
-            65_535,
-            65_536 + low,
-            (1 << 32) + low,
-            (1 << 63) + low,
-            usize::MAX,
-            usize::MAX - 63 + low % 64,
-        ])
-        .max(count)
 }
 
 /// Every refusal of each book with every refusal of the sheet, with and without each of 24, 25 and 26.

@@ -49,6 +49,14 @@ extern "C" {
         scratch: *mut u8,
         scratch_len: usize,
     ) -> u64;
+    fn cuhnavel_question_length(sheet: *const u8, sheet_len: usize, entry: usize) -> u64;
+    fn cuhnavel_question_text(
+        sheet: *const u8,
+        sheet_len: usize,
+        entry: usize,
+        room: *mut u8,
+        room_len: usize,
+    ) -> u64;
 }
 
 /// Check a book.
@@ -146,6 +154,24 @@ pub fn compare(
             room.len(),
             scratch.as_mut_ptr(),
             scratch.len(),
+        )
+    })
+}
+
+/// Question length: of the text of an entry's question.
+pub fn question_length(sheet: &[u8], entry: usize) -> Outcome {
+    Outcome::of_number(unsafe { cuhnavel_question_length(sheet.as_ptr(), sheet.len(), entry) })
+}
+
+/// Question text: the length of what is written at the room's start.
+pub fn question_text(sheet: &[u8], entry: usize, room: &mut [u8]) -> Outcome {
+    Outcome::of_number(unsafe {
+        cuhnavel_question_text(
+            sheet.as_ptr(),
+            sheet.len(),
+            entry,
+            room.as_mut_ptr(),
+            room.len(),
         )
     })
 }

@@ -3,7 +3,7 @@
 use super::sheets::{Entry, Sheet, Step};
 
 /// The numbers that an entry names.
-fn named(entry: &Entry) -> Vec<u16> {
+pub fn named(entry: &Entry) -> Vec<u16> {
     let tests = |way: &[Step]| -> Vec<u16> { way.iter().map(|step| step.test).collect() };
     match entry {
         Entry::True => vec![],

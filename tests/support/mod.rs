@@ -40,3 +40,18 @@ pub fn changed(bytes: &[u8], changes: &[(usize, u8)]) -> Vec<u8> {
 pub fn hex(bytes: &[u8]) -> String {
     bytes.iter().map(|byte| format!("{byte:02x}")).collect()
 }
+
+/// Lends so many zeros, which take memory only where they are written to. Without room for so many addresses they are left out.
+pub fn lend_zeros(size: usize, to: impl FnOnce(&mut [u8])) {
+    use std::alloc::{alloc_zeroed, dealloc, Layout};
+    let layout = Layout::array::<u8>(size).unwrap();
+    unsafe {
+        let start = alloc_zeroed(layout);
+        if start.is_null() {
+            println!("left out: a list of {size} bytes");
+            return;
+        }
+        to(std::slice::from_raw_parts_mut(start, size));
+        dealloc(start, layout);
+    }
+}

@@ -34,6 +34,11 @@ pub fn refused(part: u8, refusal: u8) -> Outcome {
     }
 }
 
+/// The length of what was written: one value of 32 bits, for which both are taken.
+pub fn of_length(length: u32) -> Outcome {
+    Outcome::of_number((length as u64) << 16)
+}
+
 impl Outcome {
     /// refusal + 2^8 × part + 2^16 × first + 2^40 × second.
     pub fn number(self) -> u64 {
@@ -50,5 +55,10 @@ impl Outcome {
             first: (number >> 16) as u32 & 0xff_ffff,
             second: (number >> 40) as u32,
         }
+    }
+
+    /// The length that an operation answers which writes.
+    pub fn length(self) -> usize {
+        (self.number() >> 16) as usize
     }
 }

@@ -1,4 +1,4 @@
-//! Books and sheets that a check refuses, for each number; 0 for accepted ones.
+//! Books and sheets that a check refuses, for each number; 0 for accepted ones. Numbers that are in none.
 
 use super::books::{random_book, Book};
 use super::checks::{check_book, check_sheet};
@@ -130,4 +130,29 @@ pub fn change_byte(random: &mut Random, bytes: &mut [u8]) {
         bytes[place].wrapping_add(1),
         bytes[place].wrapping_sub(1),
     ]);
+}
+
+/// 0 and the refusals.
+pub fn or_none(refusals: &[u8]) -> Vec<u8> {
+    [&[0], refusals].concat()
+}
+
+/// A number just beyond a count or far beyond: also one whose low bits are in range.
+pub fn beyond(random: &mut Random, count: usize) -> usize {
+    let low = random.below(count);
+    random
+        .pick(&[
+            count,
+            count + 1,
+            64,
+            255,
+            256 + low,
+            65_535,
+            65_536 + low,
+            (1 << 32) + low,
+            (1 << 63) + low,
+            usize::MAX,
+            usize::MAX - 63 + low % 64,
+        ])
+        .max(count)
 }

@@ -94,6 +94,23 @@ impl Entry {
     pub fn bytes(&self) -> Vec<u8> {
         counted(&self.body())
     }
+
+    /// The entry with other numbers.
+    pub fn renamed(&self, number: impl Fn(u16) -> u16) -> Entry {
+        let way = |steps: &[Step]| {
+            let renamed = |s: &Step| step(s.label, number(s.test));
+            steps.iter().map(renamed).collect()
+        };
+        match self {
+            Entry::True => Entry::True,
+            Entry::Not(a) => Entry::Not(number(*a)),
+            Entry::And(a, b) => Entry::And(number(*a), number(*b)),
+            Entry::Or(a, b) => Entry::Or(number(*a), number(*b)),
+            Entry::Way(w) => Entry::Way(way(w)),
+            Entry::Same(w, v) => Entry::Same(way(w), way(v)),
+            Entry::Differ(w, v) => Entry::Differ(way(w), way(v)),
+        }
+    }
 }
 
 fn push_steps(body: &mut Vec<u8>, steps: &[Step]) {

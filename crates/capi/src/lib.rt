@@ -8,6 +8,7 @@ ghost use Rattle.truth.specs.Truth.{IsTruthCode, IsClaimCode};
 ghost use Rattle.compare.specs.Compare.{lent, IsCompareCode};
 ghost use Rattle.answers.specs.Row.{rowAnswer, rowOutcome, wordIn};
 ghost use Rattle.answers.specs.Pair.{pairAnswer, pairOutcome};
+ghost use Rattle.question_text.specs.Answer.{lengthAnswer, textOutcome, IsWriteCode};
 
 // Check a book: its cells and links, or the first refusal of 1 to 7 that applies, of the only book.
 #[no_mangle]
@@ -100,4 +101,21 @@ pub extern "C" fn cuhnavel_links(book: &[u8], cell: usize) -> u64
     ensures { λ r. ⌜ r ≡ code (linksOutcome (linksAnswer (now (book .entry)) cell)) ⌝ }
 {
     book::links_code(book, cell)
+}
+
+// Question length: how many bytes the text of an entry's question has, as 2^16 × the length. Refused: the sheet's refusal, or 25, 28 or 29.
+#[no_mangle]
+pub extern "C" fn cuhnavel_question_length(sheet: &[u8], entry: usize) -> u64
+    ensures { λ r. ⌜ r ≡ code (textOutcome (lengthAnswer (now (sheet .entry)) entry)) ⌝ }
+{
+    question_text::length_code(sheet, entry)
+}
+
+// Question text: writes an entry's question out in full at the room's start; the bytes after the text stay. The answer is that of the question length.
+// Refused, the room being as before: the sheet's refusal, or 25, 28, 29 or 30.
+#[no_mangle]
+pub extern "C" fn cuhnavel_question_text(sheet: &[u8], entry: usize, room: &mut [u8]) -> u64
+    ensures { λ r. ⌜ IsWriteCode (now (sheet .entry)) entry (now (room .entry)) r (now (room .exit)) ⌝ }
+{
+    question_text::text_code(sheet, entry, room)
 }

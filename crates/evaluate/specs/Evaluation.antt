@@ -2,18 +2,16 @@
 -- `Evaluated` says that what is computed is the word of the entry's question.
 use mathlib.Core.List.{List, [], _∷_}
 use mathlib.Core.Path.{_≡_}
-use Prim.Native.Nat.{ℕ, zero, suc, _+_, _-_, _*_, _^_, _≤_, _<_}
+use Prim.Native.Nat.{ℕ, zero, suc, _+_, _-_, _^_, _≤_, _<_}
 use lib.Bits.{bitAnd, bitOr, bitXor}
-use lib.ListN.{length, getD, set}
+use lib.ListN.{getD, set}
 use Rattle.theory.specs.Search.{list}
 use Rattle.theory.specs.Graph.{Comparison, same, differ, Graph, Link, WellFormed}
 use Rattle.theory.specs.Expression.{NodeExpr}
 use Rattle.theory.specs.Meaning.{holds}
 use Rattle.words.specs.Words.{wordOf}
-use Rattle.sheet.specs.Entry.{Step, Entry, truth, negation, conjunction, disjunction, way, comparison, firstWay, secondWay, named, tests, numbers, Below}
-use Rattle.sheet.specs.Sheet.{headSize, countOf, stepWidth, entryAt, nextAt, questionOf, sheetRefusal}
-use Rattle.sheet.specs.Reading.{Readable, stepsOf}
-use Rattle.sheet.specs.declared.Steps.{Steps}
+use Rattle.sheet.specs.Entry.{Step, Entry, truth, negation, conjunction, disjunction, way, comparison, firstWay, secondWay, named}
+use Rattle.sheet.specs.Sheet.{headSize, entryAt, nextAt, questionOf}
 use Rattle.edges.specs.Edges.{edges, image, gather, emptyRows, anyPasses, Rows}
 
 -- ---- what is asked for
@@ -109,22 +107,6 @@ abbrev pub evaluated : Tables → List ℕ → ℕ → List ℕ → List ℕ
 evaluated t s upto ws = evaluatedFrom t s 0 headSize upto ws
 
 -- ---- what the functions need
-
--- The steps of a way lie within the sheet, and their tests name some of m words.
-pub record WayKnown (s : List ℕ) (w : Steps) (m : ℕ) : Type 0 where
-  pub inside : w .start + stepWidth * w .count ≤ length s
-  pub known : Below m (tests (stepsOf s w))
-
--- An entry stands at `at`, and its numbers name some of m words.
-pub record EntryKnown (s : List ℕ) (at m : ℕ) : Type 0 where
-  pub entry : Readable s at
-  pub known : Below m (numbers (entryAt s at))
-
--- The first `upto` entries of an accepted sheet have room in m words.
-pub record Room (s : List ℕ) (upto m : ℕ) : Type 0 where
-  pub good : sheetRefusal s ≡ 0
-  pub entries : upto ≤ countOf s
-  pub words : upto ≤ m
 
 -- The tables are those of a graph.
 pub record TablesOf (g : Graph) (t : Tables) : Type 0 where

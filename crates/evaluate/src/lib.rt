@@ -6,8 +6,9 @@ ghost use Rattle.theory.specs.Search.{list};
 ghost use Rattle.sheet.specs.Entry.{kindOf, stepIn, numbers};
 ghost use Rattle.sheet.specs.Sheet.{entryAt};
 ghost use Rattle.sheet.specs.Reading.{stepsOf, HasNumber};
+ghost use Rattle.sheet.specs.Known.{WayKnown, EntryKnown, EntriesFit};
 ghost use Rattle.edges.specs.Edges.{edges, Held};
-ghost use Rattle.evaluate.specs.Evaluation.{tables, plainWord, wayWord, endRows, comparisonWord, pairWord, entryWord, evaluated, WayKnown, EntryKnown, Room};
+ghost use Rattle.evaluate.specs.Evaluation.{tables, plainWord, wayWord, endRows, comparisonWord, pairWord, entryWord, evaluated};
 use sheet::Question;
 
 // The word of the entry that number i of the not, and or or at `at` names.
@@ -192,7 +193,7 @@ pub fn evaluate(
     upto: usize,
     known: &mut [u64],
 )
-    requires { ⌜ (n ≤ 64) × Held count (now from) (now to) × Room (now sheet) upto (length (now known)) ⌝ }
+    requires { ⌜ (n ≤ 64) × Held count (now from) (now to) × EntriesFit (now sheet) upto (length (now known)) ⌝ }
     ensures { λ _. ⌜ now (known .exit) ≡ evaluated (tables n count (now (from .entry)) (now (labels .entry)) (now (to .entry)) (now (same .entry)) (now (differ .entry))) (now (sheet .entry)) upto (now (known .entry)) ⌝ }
 {
     let mut at = sheet::entry_start(sheet, Question(0));

@@ -1,2 +1,4 @@
 pub mod Fields
 pub mod Laws
+pub mod Runs
+pub mod RunLaws

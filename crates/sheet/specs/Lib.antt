@@ -5,4 +5,6 @@ pub mod Encoding
 pub mod Passed
 pub mod Accepted
 pub mod Reading
+pub mod Known
+pub mod KnownLaws
 pub mod Written

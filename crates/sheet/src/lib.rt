@@ -24,12 +24,12 @@ const LABEL: usize = 1;
 
 const NUMBER: usize = 2;
 
-const STEP: usize = 3;
+pub const STEP: usize = 3;
 
 // The largest bound, the most entries, the largest kind, and the most steps of a way.
 const MOST_BOUND: u8 = 4;
 
-const MOST_ENTRIES: u16 = 16385;
+pub const MOST_ENTRIES: u16 = 16385;
 
 const MOST_KIND: u8 = 6;
 

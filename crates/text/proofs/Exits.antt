@@ -1,17 +1,16 @@
 -- What the writers leave. Assumes nothing.
 use mathlib.Core.List.{List, [], _∷_, _++_, append-nil, append-assoc}
-use mathlib.Core.Path.{_≡_, refl, sym, ap, ap₂, _∙_}
-use Prim.Native.Nat.{ℕ, zero, suc, _+_, _-_, _/_, _%_, _^_, _≤_, _<_}
-use native.Mathlib.Nat.{add-zero, one-le-pow, pow-le-pow-right, pow-suc, mod-lt, le-of-suc-le-suc}
+use mathlib.Core.Path.{_≡_, refl, sym, ap, _∙_}
+use Prim.Native.Nat.{ℕ, suc, _+_, _/_, _%_, _^_, _≤_, _<_}
+use native.Mathlib.Nat.{add-zero}
 use native.Mathlib.Numerals.{add-one}
-use native.Mathlib.Decide.{decLe}
 use native.Mathlib.Omega.{arith}
-use borrow.Author.Tests.{lt-ltb, le-ltb}
-use lib.Dec.{lit<}
 use lib.ListN.{length, take, set, getD, length-set}
 use lib.Seq.{take-suc, take-suc-set, take-length}
-use Rattle.io.specs.Digits.{glyph, digits, Fewest}
-use Rattle.text.specs.Text.{digit, numeral, decimal, mostDigits, Wrote}
+use Rattle.fields.specs.Runs.{PutBytes}
+use Rattle.fields.specs.RunLaws.{put-as, put-after, rest-fits}
+use Rattle.text.specs.Text.{digit, decimal, mostDigits, Wrote}
+use Rattle.text.specs.Laws.{decimal-one, decimal-two, decimal-hundreds, length-decimal-hundreds, decimal-few, wrote-both, wrote-run}
 
 -- ---- a text, one byte at a time
 
@@ -50,65 +49,68 @@ module _ (room : List ℕ) (at : ℕ) (text : List ℕ) where
 
 -- ---- the digits of a number
 
-glyph-digit : (d : ℕ) → d < 10 → glyph d ≡ digit d
-glyph-digit d h = rw (lt-ltb d 10 h)
+pub digits-one : (n : ℕ) → n < 10 → 1 ≡ length (decimal n)
+digits-one n h = sym (ap length (decimal-one n h))
 
--- a number has fewer digits than its value, but for those of one digit
-few-digits : (k : ℕ) → k < 10 ^ k
-few-digits zero = lit< tt
-few-digits (suc k) = omega (arith, few-digits k, pow-suc 10 k)
+pub digits-two : (n : ℕ) → 10 ≤ n → n < 100 → 2 ≡ length (decimal n)
+digits-two n h l = sym (ap length (decimal-two n h l))
 
-one-digit : (more n : ℕ) → n < 10 → glyph (n % 10) ∷ [] ≡ numeral more n
-unfolding numeral
-one-digit more n h = let e : n % 10 ≡ n = omega arith in rw e (rw (glyph-digit n h) (go more))
-  where
-    go : (more : ℕ) → digit n ∷ [] ≡ numeral more n
-    go zero = refl
-    go (suc more) = rw (lt-ltb n 10 h)
+pub digits-three : (n : ℕ) → 100 ≤ n → n < 1000 → 3 ≡ length (decimal n)
+digits-three n h l = omega (arith, length-decimal-hundreds n h, digits-one (n / 100) (omega arith))
 
--- k + 1 digits, the first of which is not 0 if there are others
-digits-numeral : (k more n : ℕ) → n < 10 ^ suc k → (0 < k → 10 ^ k ≤ n) → k ≤ more → digits 10 (suc k) n ≡ numeral more n
-unfolding numeral
-digits-numeral zero more n h f l = one-digit more n h
-digits-numeral (suc k) zero n h f l = absurd (omega arith)
-digits-numeral (suc k) (suc more) n h f l =
-    let p = pow-suc 10 k in
-    let q = pow-suc 10 (suc k) in
-    let o = one-le-pow k 10 (lit< tt) in
-    let g = f (omega arith) in
-    rw (le-ltb n 10 (omega arith))
-    (ap₂ (λ (s : List ℕ) (d : ℕ). s ++ d ∷ []) (digits-numeral k more (n / 10) (omega arith) (λ _. omega arith) (le-of-suc-le-suc l)) (glyph-digit (n % 10) (mod-lt n (lit< tt))))
+pub digits-more : (n r : ℕ) → 100 ≤ n → n < 2 ^ 64 → r ≡ length (decimal (n / 100)) → (r + 2 ≡ length (decimal n)) × (r + 2 ≤ mostDigits)
+digits-more n r h l d = let e = length-decimal-hundreds n h in (omega arith, omega (arith, decimal-few n l))
 
-pub digits-decimal : (n r : ℕ) → Fewest 10 1 n r → digits 10 r n ≡ decimal n
-digits-decimal n zero f = absurd (omega (arith, f .0))
-digits-decimal n (suc k) f = digits-numeral k n n (f .1) first (few k first)
-  where
-    first : 0 < k → 10 ^ k ≤ n
-    first h = let e : suc k - 1 ≡ k = omega arith in rw e at (f .2 (omega arith))
+pub two-put : (room mid exit : List ℕ) (at n to next : ℕ) → PutBytes room at ((48 + n / 10) ∷ []) mid to → PutBytes mid to ((48 + n % 10) ∷ []) exit next
+    → PutBytes room at (digit (n / 10) ∷ digit (n % 10) ∷ []) exit next
+two-put room mid exit at n to next p q = put-after p q
 
-    few : (k : ℕ) → (0 < k → 10 ^ k ≤ n) → k ≤ n
-    few zero g = omega arith
-    few (suc k) g = omega (arith, few-digits (suc k), g (omega arith))
+module _ (room : List ℕ) (at n : ℕ) where
+  module _ (h : n < 10) where
+    pub one-fits : at + length (decimal n) ≤ length room → at + 1 ≤ length room
+    one-fits l = omega (arith, digits-one n h)
 
--- a 64-bit number has at most 20
-most-digits : (n k : ℕ) → n < 2 ^ 64 → Fewest 10 1 n k → k ≤ mostDigits
-most-digits n k h f =
-    elim (decLe k mostDigits) [
-      | yes l ↦ l
-      | no l ↦ absurd (omega (arith, f .2 (omega arith), pow-le-pow-right {n = 10} (lit< tt) {i = 20} {j = k - 1} (omega arith)))
-    ]
+    pub one-put : (exit : List ℕ) (next : ℕ) → PutBytes room at ((48 + n) ∷ []) exit next → PutBytes room at (decimal n) exit next
+    one-put exit next p = put-as (sym (decimal-one n h)) p
 
--- the digits that were spelt are few
-module _ (n k : ℕ) (spelt : List ℕ) (h : n < 2 ^ 64) (f : Fewest 10 1 n k) (c : k ≡ length (take k spelt)) where
-  pub number-fits : (at : ℕ) (room : List ℕ) → at + mostDigits ≤ length room → at + length (take k spelt) ≤ length room
-  number-fits at room l = omega (arith, most-digits n k h f)
+  module _ (h : 10 ≤ n) (l : n < 100) where
+    pub pair-fits : at + length (decimal n) ≤ length room → at + 2 ≤ length room
+    pair-fits k = omega (arith, digits-two n h l)
 
-  -- and are written
-  pub number-written : {room exit : List ℕ} {at next : ℕ} → take k spelt ≡ digits 10 k n
-      → Wrote room at (take k spelt) (length (take k spelt)) exit next → Wrote room at (decimal n) mostDigits exit next
-  number-written {room} {exit} {at} {next} e w =
-      record {
-        bytes = w .bytes ∙ ap (λ s. take at room ++ s) (e ∙ digits-decimal n k f);
-        size = w .size;
-        few = omega (arith, w .few, most-digits n k h f);
-      }
+    pub pair-put : (exit : List ℕ) (next : ℕ) → PutBytes room at (digit (n / 10) ∷ digit (n % 10) ∷ []) exit next → PutBytes room at (decimal n) exit next
+    pair-put exit next p = put-as (sym (decimal-two n h l)) p
+
+  -- the last two digits
+  last : List ℕ
+  last = digit (n % 100 / 10) ∷ digit (n % 100 % 10) ∷ []
+
+  module _ (h : 100 ≤ n) (k : at + length (decimal n) ≤ length room) where
+    pub front-fits : at + length (decimal (n / 100)) ≤ length room
+    front-fits = omega (arith, length-decimal-hundreds n h)
+
+    pub first-fits : n < 1000 → at + 1 ≤ length room
+    first-fits l = omega (arith, digits-three n h l)
+
+    pub last-fits : (mid : List ℕ) (to : ℕ) → PutBytes room at (decimal (n / 100)) mid to → to + 2 ≤ length mid
+    unfolding last
+    last-fits mid to p = rest-fits (decimal n) (decimal (n / 100)) last (decimal-hundreds n h) k p
+
+    pub two-fits : n < 1000 → (mid : List ℕ) (to : ℕ) → PutBytes room at ((48 + n / 100) ∷ []) mid to → to + 2 ≤ length mid
+    two-fits l mid to p = last-fits mid to (put-as (sym (decimal-one (n / 100) (omega arith))) p)
+
+  module _ (h : 100 ≤ n) (mid : List ℕ) (to : ℕ) (exit : List ℕ) (next : ℕ) where
+    pub more-put : PutBytes room at (decimal (n / 100)) mid to → PutBytes mid to (digit (n % 100 / 10) ∷ digit (n % 100 % 10) ∷ []) exit next → PutBytes room at (decimal n) exit next
+    more-put p q = put-as (sym (decimal-hundreds n h)) (put-after p q)
+
+    pub three-put : n < 1000 → PutBytes room at ((48 + n / 100) ∷ []) mid to → PutBytes mid to (digit (n % 100 / 10) ∷ digit (n % 100 % 10) ∷ []) exit next
+        → PutBytes room at (decimal n) exit next
+    three-put l p q = more-put (put-as (sym (decimal-one (n / 100) (omega arith))) p) q
+
+-- ---- a number behind a name
+
+module _ {room mid : List ℕ} {at to n : ℕ} {name : List ℕ} (l : n < 2 ^ 64) (h : at + (length name + mostDigits) ≤ length room) (w : Wrote room at name (length name) mid to) where
+  pub labelled-fits : to + length (decimal n) ≤ length mid
+  labelled-fits = omega (arith, decimal-few n l, w .size, w .few)
+
+  pub labelled-put : {exit : List ℕ} {next : ℕ} → PutBytes mid to (decimal n) exit next → Wrote room at (name ++ decimal n) (length name + mostDigits) exit next
+  labelled-put p = wrote-both w (wrote-run labelled-fits (decimal-few n l) p)

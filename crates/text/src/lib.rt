@@ -1,7 +1,63 @@
 // Text written into lent bytes, one piece behind another.
-ghost use Prim.Native.Nat.{_+_, _≤_};
+ghost use mathlib.Core.List.{[], _∷_};
+ghost use mathlib.Core.Path.{_≡_};
+ghost use Prim.Native.Nat.{_+_, _/_, _%_, _≤_, _<_};
 ghost use lib.ListN.{length};
-ghost use Rattle.text.specs.Text.{decimal, labelled, ending, mostDigits, Wrote};
+ghost use Rattle.fields.specs.Runs.{PutBytes};
+ghost use Rattle.text.specs.Text.{digit, decimal, labelled, ending, mostDigits, Wrote};
+
+// Writes a byte at `at`, and gives the place after it.
+pub fn put_byte(room: &mut [u8], at: usize, byte: u8) -> usize
+    requires { ⌜ at + 1 ≤ length (now room) ⌝ }
+    ensures { λ r. ⌜ PutBytes (now (room .entry)) at (byte ∷ []) (now (room .exit)) r ⌝ }
+{
+    room[at] = byte;
+    at + 1
+}
+
+// How many digits a number has in base ten: at most 20.
+pub fn digits(n: u64) -> u64
+    ensures { λ r. ⌜ (r ≡ length (decimal n)) × (r ≤ mostDigits) ⌝ }
+{
+    if n < 10 {
+        return 1;
+    }
+    if n < 100 {
+        return 2;
+    }
+    if n < 1000 {
+        return 3;
+    }
+    digits(n / 100) + 2
+}
+
+// Writes the two digits of a number below 100 at `at`, and gives the place after them.
+fn put_two_digits(room: &mut [u8], at: usize, n: u64) -> usize
+    requires { ⌜ (n < 100) × (at + 2 ≤ length (now room)) ⌝ }
+    ensures { λ r. ⌜ PutBytes (now (room .entry)) at (digit (n / 10) ∷ digit (n % 10) ∷ []) (now (room .exit)) r ⌝ }
+{
+    let next = put_byte(room, at, 48 + (n / 10) as u8);
+    put_byte(room, next, 48 + (n % 10) as u8)
+}
+
+// Writes a number in base ten at `at`, and gives the place after it.
+pub fn put_number(room: &mut [u8], at: usize, n: u64) -> usize
+    requires { ⌜ at + length (decimal n) ≤ length (now room) ⌝ }
+    ensures { λ r. ⌜ PutBytes (now (room .entry)) at (decimal n) (now (room .exit)) r ⌝ }
+{
+    if n < 10 {
+        return put_byte(room, at, 48 + n as u8);
+    }
+    if n < 100 {
+        return put_two_digits(room, at, n);
+    }
+    if n < 1000 {
+        let next = put_byte(room, at, 48 + (n / 100) as u8);
+        return put_two_digits(room, next, n % 100);
+    }
+    let next = put_number(room, at, n / 100);
+    put_two_digits(room, next, n % 100)
+}
 
 // Writes a text at `at`, and gives the byte after it.
 pub fn put(room: &mut [u8], at: usize, text: &[u8]) -> usize
@@ -14,16 +70,6 @@ pub fn put(room: &mut [u8], at: usize, text: &[u8]) -> usize
         i += 1;
     }
     at + i
-}
-
-// Writes a number in base ten at `at`, and gives the byte after it.
-pub fn put_number(room: &mut [u8], at: usize, n: u64) -> usize
-    requires { ⌜ at + mostDigits ≤ length (now room) ⌝ }
-    ensures { λ r. ⌜ Wrote (now (room .entry)) at (decimal n) mostDigits (now (room .exit)) r ⌝ }
-{
-    let mut digits = [0u8; 20];
-    let k = io::decimal(n, &mut digits);
-    put(room, at, &digits[..k])
 }
 
 // Writes a name and a number at `at`, and gives the byte after them.

@@ -23,7 +23,8 @@ use Rattle.sheet.specs.declared.SheetAnswer.the-variants.{Accepted, Refused}
 use Rattle.edges.specs.Edges.{Held, Rows}
 use Rattle.edges.specs.BookEdges.{Loaded, passing}
 use Rattle.edges.specs.BookLaws.{passing-rows}
-use Rattle.evaluate.specs.Evaluation.{questionWord, tables, rowsFor, evaluated, Room, TablesOf}
+use Rattle.sheet.specs.Known.{EntriesFit}
+use Rattle.evaluate.specs.Evaluation.{questionWord, tables, rowsFor, evaluated, TablesOf}
 use Rattle.evaluate.specs.Evaluated.{words-evaluated}
 use Rattle.evaluate.specs.Writing.{over-at, over-length, over-over}
 use Rattle.truth.specs.declared.TruthAnswer.{TruthAnswer}
@@ -59,10 +60,10 @@ module _ (b fs ls ts : List ℕ) (o : Loaded b fs ls ts) (count : ℕ) (d : coun
         passes same = rw f (passing-rows b same r)
         passes differ = rw g (passing-rows b differ r)
 
-    pub words-written : (s ws ws′ : List ℕ) (upto : ℕ) → Room s upto (length ws) → ws′ ≡ evaluated (tables n count fs ls ts sames differs) s upto ws
+    pub words-written : (s ws ws′ : List ℕ) (upto : ℕ) → EntriesFit s upto (length ws) → ws′ ≡ evaluated (tables n count fs ls ts sames differs) s upto ws
         → ws′ ≡ firstWords b s upto ws
     unfolding firstWords
-    words-written s ws ws′ upto h i = i ∙ words-evaluated (graphOf b) s (h .good) tables-of ws upto (h .entries) (h .words)
+    words-written s ws ws′ upto h i = i ∙ words-evaluated (graphOf b) s (h .good) tables-of ws upto (h .entries) (h .places)
 
 -- ---- the check of the sheet
 module _ (s : List ℕ) (a : SheetAnswer) (d : a ≡ sheetAnswer s) where
@@ -108,8 +109,8 @@ module _ (b s ws : List ℕ) where
       truth-few h = truth-told told.FewWords ws (judged true (lt-ltb (length ws) q h)) refl
 
       module _ (h : q ≤ length ws) where
-        pub truth-room : Room s q (length ws)
-        truth-room = record { good = sheet-good s a d q c e; entries = let i = sheet-count s a d q c e in omega arith; words = h }
+        pub truth-room : EntriesFit s q (length ws)
+        truth-room = record { good = sheet-good s a d q c e; entries = let i = sheet-count s a d q c e in omega arith; places = h }
 
         pub truth-done : (ws′ : List ℕ) → ws′ ≡ firstWords b s q ws → IsTruth b s ws told.Done ws′
         unfolding leftBy
@@ -133,24 +134,24 @@ true-told b s ws ws′ n k i x h l d e =
 
 module _ (l r s ws : List ℕ) (q k : ℕ) (o : Entered l r s q k (length ws)) where
   -- the words up to the entry have room, and stay as many
-  pub room-left : Room s (k + 1) (length ws)
+  pub room-left : EntriesFit s (k + 1) (length ws)
   room-left =
       let e = o .entry in
       let n = o .room .entries in
-      let m = o .room .words in
-      record { good = o .room .good; entries = omega arith; words = omega arith }
+      let m = o .room .places in
+      record { good = o .room .good; entries = omega arith; places = omega arith }
 
   module _ (i j : ℕ) (ws₁ : List ℕ) (here : Bool) (x : Told (holds (graphOf l) (questionOf s k) i) (firstWords l s (k + 1) ws) here ws₁) where
-    pub room-right : Room s q (length ws₁)
+    pub room-right : EntriesFit s q (length ws₁)
     unfolding firstWords
-    room-right = rw (x .words, over-length (k + 1) (questionWord (graphOf l) s) ws (room-left .words)) (o .room)
+    room-right = rw (x .words, over-length (k + 1) (questionWord (graphOf l) s) ws (room-left .places)) (o .room)
 
     module _ (ws₂ : List ℕ) (there : Bool) (y : Told (holds (graphOf r) (questionOf s k) j) (firstWords r s q ws₁) there ws₂) where
       words-right : ws₂ ≡ truthWords r s ws
       unfolding firstWords
       words-right =
           let p = o .entry in
-          y .words ∙ ap (firstWords r s q) (x .words) ∙ over-over q (k + 1) _ _ ws (omega arith) (room-left .words)
+          y .words ∙ ap (firstWords r s q) (x .words) ∙ over-over q (k + 1) _ _ ws (omega arith) (room-left .places)
           ∙ ap (λ n. firstWords r s n ws) (o .all)
 
       asks : parts l r s k i j ≡ here && not there
@@ -209,14 +210,14 @@ module _ (l r s ws : List ℕ) (k i j : ℕ) where
 
       pub claim-entered : k < q → Entered l r s q k (length ws)
       claim-entered e =
-          record { left = u; right = v; room = record { good = w; entries = omega arith; words = h }; all = c; entry = e }
+          record { left = u; right = v; room = record { good = w; entries = omega arith; places = h }; all = c; entry = e }
 
   module _ (q : ℕ) (o : Entered l r s q k (length ws)) where
     -- what is left to judge
     judged-cells : claimAnswer l r s k i j (length ws)
         ≡ cond (leb (cellsOf l) i || leb (cellsOf r) j) claimed.NoCell (cond (parts l r s k i j) claimed.Yes claimed.No)
     judged-cells =
-        judged-claim (o .left) (o .right) (o .room .good) q (o .all) ∙ rw (le-ltb (length ws) q (o .room .words), lt-leb q k (o .entry))
+        judged-claim (o .left) (o .right) (o .room .good) q (o .all) ∙ rw (le-ltb (length ws) q (o .room .places), lt-leb q k (o .entry))
 
     module _ (x : Bool) (d : x ≡ ltb i (cellsOf l)) where
       pub claim-left-cell : not x ≡ true → IsClaim l r s k i j ws claimed.NoCell ws

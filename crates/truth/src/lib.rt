@@ -7,7 +7,7 @@ ghost use Rattle.outcome.specs.Outcome.{code};
 ghost use Rattle.book.specs.Book.{cellsOf, bookRefusal};
 ghost use Rattle.book.specs.BookGraph.{graphOf};
 ghost use Rattle.sheet.specs.Sheet.{countOf, questionOf, sheetRefusal};
-ghost use Rattle.evaluate.specs.Evaluation.{Room};
+ghost use Rattle.sheet.specs.Known.{EntriesFit};
 ghost use Rattle.truth.specs.Truth.{firstWords, truthWords, truthOutcome, parts, claimOutcome, Told, IsTruth, IsTruthCode, IsClaim, IsClaimCode};
 ghost use Rattle.truth.specs.Entered.{Entered};
 use book::LeftCell;
@@ -42,7 +42,7 @@ pub enum ClaimAnswer {
 
 // Writes the words of the first `upto` entries of an accepted sheet, of an accepted book.
 fn write_words(book: &[u8], sheet: &[u8], upto: usize, words: &mut [u64])
-    requires { ⌜ (bookRefusal (now book) ≡ 0) × Room (now sheet) upto (length (now words)) ⌝ }
+    requires { ⌜ (bookRefusal (now book) ≡ 0) × EntriesFit (now sheet) upto (length (now words)) ⌝ }
     ensures { λ _. ⌜ now (words .exit) ≡ firstWords (now (book .entry)) (now (sheet .entry)) upto (now (words .entry)) ⌝ }
 {
     let mut from = [0u8; 512];
@@ -99,7 +99,7 @@ fn true_at(
     cell: u8,
     words: &mut [u64],
 ) -> bool
-    requires { ⌜ (bookRefusal (now book) ≡ 0) × Room (now sheet) upto (length (now words)) × (entry < upto) × (cell < cellsOf (now book)) ⌝ }
+    requires { ⌜ (bookRefusal (now book) ≡ 0) × EntriesFit (now sheet) upto (length (now words)) × (entry < upto) × (cell < cellsOf (now book)) ⌝ }
     ensures { λ r. ⌜ Told (holds (graphOf (now (book .entry))) (questionOf (now (sheet .entry)) entry) cell) (firstWords (now (book .entry)) (now (sheet .entry)) upto (now (words .entry))) r (now (words .exit)) ⌝ }
 {
     write_words(book, sheet, upto, words);

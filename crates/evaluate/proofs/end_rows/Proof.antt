@@ -6,8 +6,10 @@ use borrow.Author.Needs.{needs}
 use lib.ListN.{length, drop}
 use Rattle.sheet.specs.Reading.{stepsOf}
 use Rattle.edges.specs.Edges.{edges, Held}
-use Rattle.evaluate.specs.Evaluation.{endRows, WayKnown}
-use Rattle.evaluate.proofs.Laws.{has-step, rows-start, rows-next, rows-end}
+use Rattle.sheet.specs.Known.{WayKnown}
+use Rattle.evaluate.specs.Evaluation.{endRows}
+use Rattle.sheet.specs.KnownLaws.{has-step}
+use Rattle.evaluate.proofs.Laws.{rows-start, rows-next, rows-end}
 use Rattle.evaluate.proofs.end_rows.Statement.{statement}
 use Rattle.evaluate.proofs.end_rows.Tie as tie
 

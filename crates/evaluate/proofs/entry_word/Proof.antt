@@ -1,6 +1,7 @@
 -- `evaluate::entry_word` meets its contract. A return for each kind. Assumes nothing.
 use borrow.Author.Needs.{needs}
-use Rattle.evaluate.proofs.Laws.{first-known, entry-plain, entry-way, entry-same, entry-differ}
+use Rattle.sheet.specs.KnownLaws.{first-known}
+use Rattle.evaluate.proofs.Laws.{entry-plain, entry-way, entry-same, entry-differ}
 use Rattle.evaluate.proofs.entry_word.Statement.{statement}
 use Rattle.evaluate.proofs.entry_word.Tie as tie
 

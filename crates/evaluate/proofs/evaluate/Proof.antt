@@ -6,26 +6,28 @@ use borrow.Author.Needs.{needs}
 use lib.ListN.{length}
 use Rattle.sheet.specs.Sheet.{entryStart}
 use Rattle.edges.specs.Edges.{Held}
-use Rattle.evaluate.specs.Evaluation.{tables, evaluatedFrom, evaluated, Room}
-use Rattle.evaluate.proofs.Laws.{room-first, room-known, room-readable, evaluate-start, evaluate-next, evaluate-end, start-next}
+use Rattle.sheet.specs.Known.{EntriesFit}
+use Rattle.evaluate.specs.Evaluation.{tables, evaluatedFrom, evaluated}
+use Rattle.sheet.specs.KnownLaws.{fit-first, fit-known, fit-readable, start-next}
+use Rattle.evaluate.proofs.Laws.{evaluate-start, evaluate-next, evaluate-end}
 use Rattle.evaluate.proofs.evaluate.Statement.{statement}
 use Rattle.evaluate.proofs.evaluate.Tie as tie
 
 abbrev Inv-loop : tie.InvT-loop
 Inv-loop n count from labels to same differ sheet upto known₀ at₀ k₀ known at k = (evaluatedFrom (tables n count from labels to same differ) sheet k at (upto - k) known ≡ evaluated (tables n count from labels to same differ) sheet upto known₀)
-    × (at ≡ entryStart sheet k) × (k ≤ upto) × (length known ≡ length known₀) × (n ≤ 64) × Held count from to × Room sheet upto (length known₀)
+    × (at ≡ entryStart sheet k) × (k ≤ upto) × (length known ≡ length known₀) × (n ≤ 64) × Held count from to × EntriesFit sheet upto (length known₀)
 
 abbrev μ-loop : tie.MeasureT-loop
 μ-loop n count from labels to same differ sheet upto known₀ at₀ k₀ known at k = upto - k
 
 entry-start-requires : tie.Need-entry-start-requires Inv-loop μ-loop
-entry-start-requires c κs = search room-first
+entry-start-requires c κs = search fit-first
 
 loop-holds : tie.Need-loop-holds Inv-loop μ-loop
 loop-holds c = (search evaluate-start, search needs, omega arith, search needs, search needs, search needs, search needs)
 
 entry-word-requires : tie.Need-entry-word-requires Inv-loop μ-loop
-entry-word-requires c κs = (search needs, search needs, search room-known)
+entry-word-requires c κs = (search needs, search needs, search fit-known)
 
 mul-known : tie.Need-mul-known Inv-loop μ-loop
 mul-known c = search needs
@@ -34,7 +36,7 @@ slice-write-known : tie.Need-slice-write-known Inv-loop μ-loop
 slice-write-known c = search needs
 
 next-start-requires : tie.Need-next-start-requires Inv-loop μ-loop
-next-start-requires c κs = search room-readable
+next-start-requires c κs = search fit-readable
 
 add-k : tie.Need-add-k Inv-loop μ-loop
 add-k c = search needs

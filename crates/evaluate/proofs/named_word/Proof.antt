@@ -1,6 +1,7 @@
 -- `evaluate::named_word` meets its contract. Assumes nothing.
 use borrow.Author.Needs.{needs}
-use Rattle.evaluate.proofs.Laws.{number-known, read-at}
+use Rattle.sheet.specs.KnownLaws.{number-known}
+use Rattle.evaluate.proofs.Laws.{read-at}
 use Rattle.evaluate.proofs.named_word.Statement.{statement}
 use Rattle.evaluate.proofs.named_word.Tie as tie
 

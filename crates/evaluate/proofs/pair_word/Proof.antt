@@ -1,6 +1,7 @@
 -- `evaluate::pair_word` meets its contract. Assumes nothing.
 use borrow.Author.Needs.{needs}
-use Rattle.evaluate.proofs.Laws.{first-known, second-known, pair-returned}
+use Rattle.sheet.specs.KnownLaws.{first-known, second-known}
+use Rattle.evaluate.proofs.Laws.{pair-returned}
 use Rattle.evaluate.proofs.pair_word.Statement.{statement}
 use Rattle.evaluate.proofs.pair_word.Tie as tie
 

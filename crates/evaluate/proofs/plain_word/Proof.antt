@@ -1,6 +1,7 @@
 -- `evaluate::plain_word` meets its contract. A return for each kind. Assumes nothing.
 use borrow.Author.Needs.{needs}
-use Rattle.evaluate.proofs.Laws.{first-number, second-number, plain-true, plain-not, plain-and, plain-or}
+use Rattle.sheet.specs.KnownLaws.{first-number, second-number}
+use Rattle.evaluate.proofs.Laws.{plain-true, plain-not, plain-and, plain-or}
 use Rattle.evaluate.proofs.plain_word.Statement.{statement}
 use Rattle.evaluate.proofs.plain_word.Tie as tie
 

@@ -1,6 +1,7 @@
 -- `evaluate::tested_word` meets its contract. Assumes nothing.
 use borrow.Author.Needs.{needs}
-use Rattle.evaluate.proofs.Laws.{has-step, test-known, read-at}
+use Rattle.sheet.specs.KnownLaws.{has-step, test-known}
+use Rattle.evaluate.proofs.Laws.{read-at}
 use Rattle.evaluate.proofs.tested_word.Statement.{statement}
 use Rattle.evaluate.proofs.tested_word.Tie as tie
 

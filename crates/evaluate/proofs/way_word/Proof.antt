@@ -7,8 +7,10 @@ use lib.ListN.{length, drop}
 use Rattle.sheet.specs.Reading.{stepsOf}
 use Rattle.edges.specs.Edges.{edges, Held}
 use Rattle.edges.specs.Laws.{held-turned}
-use Rattle.evaluate.specs.Evaluation.{wayWord, WayKnown}
-use Rattle.evaluate.proofs.Laws.{has-step, way-start, way-next, way-end}
+use Rattle.sheet.specs.Known.{WayKnown}
+use Rattle.evaluate.specs.Evaluation.{wayWord}
+use Rattle.sheet.specs.KnownLaws.{has-step}
+use Rattle.evaluate.proofs.Laws.{way-start, way-next, way-end}
 use Rattle.evaluate.proofs.way_word.Statement.{statement}
 use Rattle.evaluate.proofs.way_word.Tie as tie
 

@@ -1,0 +1,5 @@
+pub mod Pieces
+pub mod Entries
+pub mod Questions
+pub mod Ways
+pub mod Operations

@@ -1,0 +1,4 @@
+pub mod Answer
+pub mod Writing
+pub mod Laws
+pub mod Examples

@@ -1,0 +1,60 @@
+-- `text::digits` meets its contract. Assumes nothing.
+use Prim.Native.Nat.{ℕ, _<_}
+use native.Mathlib.Omega.{arith}
+use borrow.Fn.Kinds.{In}
+use borrow.Fn.PlainCycle.{Measures, is, falls, and}
+use Rattle.text.proofs.Exits.{digits-one, digits-two, digits-three, digits-more}
+use Rattle.text.proofs.digits.Reads as digits
+use Rattle.text.proofs.digits.Kinds as digits-kinds
+use Rattle.text.proofs.+digits.Lts-digits as digits-lts
+use Rattle.text.proofs.+digits.{statement}
+use Rattle.text.proofs.+digits.Tie.{close}
+
+abbrev μ-digits : Measures 0 digits-kinds.ps ℕ
+μ-digits κs a = a .0
+
+abbrev digits-at : ℕ → In 0 digits-kinds.ps
+digits-at t = and 0 digits-kinds.ps (is 0 digits-kinds.ps μ-digits t) digits.Pre
+
+abbrev digits-below : ℕ → In 0 digits-kinds.ps
+digits-below t = and 0 digits-kinds.ps (falls 0 digits-kinds.ps _<_ μ-digits t) digits.Pre
+
+digits-returns :
+    (t : ℕ) → digits-lts.Need-returns (digits-below t, digits.Post) (digits-at t) digits.Post
+digits-returns t c = (search digits-one, omega arith)
+
+digits-returns-2 :
+    (t : ℕ) → digits-lts.Need-returns-2 (digits-below t, digits.Post) (digits-at t) digits.Post
+digits-returns-2 t c = (search digits-two, omega arith)
+
+digits-returns-3 :
+    (t : ℕ) → digits-lts.Need-returns-3 (digits-below t, digits.Post) (digits-at t) digits.Post
+digits-returns-3 t c = (search digits-three, omega arith)
+
+digits-digits-requires :
+    (t : ℕ) →
+    digits-lts.Need-digits-requires (digits-below t, digits.Post) (digits-at t) digits.Post
+digits-digits-requires t c κs = omega arith
+
+digits-add-result :
+    (t : ℕ) → digits-lts.Need-add-result (digits-below t, digits.Post) (digits-at t) digits.Post
+digits-add-result t c = omega arith
+
+digits-returns-4 :
+    (t : ℕ) → digits-lts.Need-returns-4 (digits-below t, digits.Post) (digits-at t) digits.Post
+digits-returns-4 t c = digits-more _ _ (omega arith) (omega arith) (c .digits .ensures .0)
+
+pub +digits-spec : {M : Type 1} → statement M
++digits-spec =
+    close
+    μ-digits
+    λ t. digits-lts.spec
+    (digits-below t, digits.Post)
+    (digits-at t)
+    digits.Post
+    (digits-returns t)
+    (digits-returns-2 t)
+    (digits-returns-3 t)
+    (digits-digits-requires t)
+    (digits-add-result t)
+    (digits-returns-4 t)

@@ -1,0 +1,28 @@
+//! The texts of questions and their lengths (document 02, request 2026-01), compared with a plain writer, and read back.
+
+mod alike;
+mod chains;
+mod expected;
+mod inputs;
+mod lengths;
+mod question;
+mod reading;
+mod references;
+mod refused_inputs;
+#[path = "../support/mod.rs"]
+mod support;
+mod tally;
+mod writing;
+
+use tally::Tally;
+
+fn main() {
+    let mut tally = Tally::new();
+    inputs::all(&mut tally);
+    alike::all(&mut tally);
+    chains::all(&mut tally);
+    lengths::all(&mut tally);
+    refused_inputs::all(&mut tally);
+    let cases = tally.report();
+    println!("texts: the library, the plain writer and the reader agree in {cases} cases");
+}
