@@ -1,14 +1,14 @@
 //! Compare on families of books at bounds 1 to 4: the library beside plain Rust of the same method, on the same inputs in one run.
 
+mod calls;
 mod clock;
 mod families;
 mod plain_compare;
 #[path = "../tests/support/mod.rs"]
 mod support;
 
-use clock::running;
-use families::{hard, ordinary, Family};
-use std::hint::black_box;
+use calls::{timed, Lists};
+use families::{changed, hard, ordinary, Family};
 use std::time::Duration;
 use support::library;
 use support::outcome::{accepted, Outcome};
@@ -25,40 +25,14 @@ const MOST: usize = 300;
 const LONG: Duration = Duration::from_secs(1);
 const LEAST_LONG: usize = 2;
 
-/// Times of the library above the first are marked, and those above the second are counted: one in ten at most.
+/// Times of the library above the first are marked, and those above the second are counted: one in ten at most, but for the
+/// changed books, which were chosen for being slow.
 const SLOW: Duration = Duration::from_secs(2);
 const SLOWISH: Duration = Duration::from_millis(300);
 
 /// Ratios above these are marked.
 const RATIO: f64 = 1.5;
 const ORDINARY_RATIO: f64 = 2.0;
-
-/// What is lent: a map, room and scratch.
-#[derive(PartialEq)]
-struct Lists {
-    map: Vec<u16>,
-    room: Vec<u8>,
-    scratch: Vec<u8>,
-}
-
-type Compare = fn(&[u8], &[u8], usize, &mut [u16], &mut [u8], &mut [u8]) -> Outcome;
-
-/// The answer and the time of one call. All three lists are filled with ones before, outside of the time.
-fn timed(
-    compare: Compare,
-    left: &[u8],
-    right: &[u8],
-    bound: usize,
-    lists: &mut Lists,
-) -> (Outcome, Duration) {
-    lists.map.fill(u16::MAX);
-    lists.room.fill(u8::MAX);
-    lists.scratch.fill(u8::MAX);
-    let Lists { map, room, scratch } = black_box(lists);
-    let start = running();
-    let answer = compare(black_box(left), black_box(right), bound, map, room, scratch);
-    (answer, running() - start)
-}
 
 /// What was seen of some families.
 #[derive(Default)]
@@ -79,6 +53,7 @@ fn main() {
     );
     table("ordinary books", &ordinary(), ORDINARY_RATIO);
     table("hard books", &hard(), RATIO);
+    table("changed books", &changed(), RATIO);
 }
 
 /// Prints the rows of these families, and what was seen.
@@ -152,12 +127,7 @@ impl Row {
 /// Calls both by turns; each time they give the same map and sheet.
 fn measure(left: &[u8], right: &[u8], bound: usize) -> Row {
     let pairs = left[5] as usize * right[5] as usize;
-    let new = || Lists {
-        map: vec![0; pairs],
-        room: vec![0; 10 + 44 * pairs],
-        scratch: vec![0; 16 * pairs],
-    };
-    let (mut by_library, mut by_plain) = (new(), new());
+    let (mut by_library, mut by_plain) = (Lists::new(pairs), Lists::new(pairs));
     let mut row = Row {
         pairs,
         calls: 0,

@@ -2,7 +2,7 @@
 
 use crate::support::books::{chain, link, random_book, ring, Book};
 use crate::support::random::Random;
-use crate::support::remade::{renumbered, split};
+use crate::support::remade::{damaged, renumbered, split};
 
 /// Two books to be compared.
 pub struct Family {
@@ -168,6 +168,46 @@ fn dense(random: &mut Random) -> Vec<Family> {
         }
     }
     families
+}
+
+/// Random books of one recording, and renumbered copies with one change: cells, labels, links and the seed. Of some 4,900 seeds tried
+/// with the plain version at bound 4 the six slowest, and eight more of the slow ones, some of them of 5 and 6 labels, of the most
+/// cells, or with one recording changed.
+const CHANGED: [(usize, usize, usize, u64); 14] = [
+    (23, 9, 509, 200752),
+    (25, 8, 511, 300549),
+    (25, 8, 512, 200334),
+    (27, 7, 511, 200661),
+    (27, 8, 499, 300268),
+    (28, 7, 510, 200560),
+    (29, 7, 511, 300671),
+    (29, 9, 508, 300003),
+    (29, 9, 510, 200508),
+    (32, 6, 508, 200018),
+    (33, 7, 501, 200451),
+    (35, 6, 498, 200369),
+    (38, 5, 509, 200196),
+    (39, 8, 503, 200471),
+];
+
+/// Books of which the ways of 3 and 4 links take many tables, while one table of all lengths decides few pairs.
+pub fn changed() -> Vec<Family> {
+    let family = |(cells, labels, links, seed)| {
+        let random = &mut Random::new(seed);
+        let book = random_book(random, cells, links, labels, 1);
+        let copy = renumbered(random, &book);
+        let right = damaged(random, &copy);
+        let what = match right.recordings == copy.recordings {
+            true => "link",
+            false => "recording",
+        };
+        Family {
+            name: format!("one {what} changed, {labels} labels, {links} links, seed {seed}"),
+            left: book,
+            right,
+        }
+    };
+    CHANGED.into_iter().map(family).collect()
 }
 
 /// The name of a family with so many recordings.

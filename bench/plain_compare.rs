@@ -1,7 +1,6 @@
 //! Compare in plain Rust, by the library's method: the same rounds over the same pairs in the same order, without those that a row
-//! before tells to stay; the same search over classes of paths in tables, without covered tips, filled and gone through in the same
-//! order, and left at the first reason, or where one table tells that there is none. So map and sheet are the library's to the byte,
-//! with tables of as many places.
+//! before tells to stay; the same search over classes of paths in tables, without covered tips, for whether there is a reason, and
+//! then link by link for the first. So map and sheet are the library's to the byte, with tables of whatever size.
 
 use crate::support::checks::check_book;
 use crate::support::outcome::{accepted, refused, Outcome, CALL, LEFT_BOOK, RIGHT_BOOK};
@@ -171,12 +170,12 @@ impl Table {
         }
     }
 
-    /// The table of the one tip (x, {y}).
-    fn root(x: usize, y: usize) -> Table {
+    /// The table of the one tip (x, w).
+    fn one(x: usize, w: u64) -> Table {
         let mut table = Table::empty();
         table.count = 1;
         table.lefts[0] = 1 << x;
-        table.rights[0] = 1 << y;
+        table.rights[0] = w;
         table
     }
 
@@ -290,19 +289,12 @@ struct Reason {
     second: Path,
 }
 
-/// A path from a tip.
+/// A path and its tip.
 #[derive(Clone, Copy)]
 struct Tail {
     cell: usize,
     word: u64,
     path: Path,
-}
-
-/// Two paths without counterpart, by the comparison of this kind.
-struct Found {
-    kind: u8,
-    first: Tail,
-    second: Tail,
 }
 
 /// What a class of first paths asks of a class of second ones: the ends that pass with one of its own, and the other book's ends
@@ -382,31 +374,6 @@ impl<const PLACES: usize> Search<'_, PLACES> {
         next
     }
 
-    /// The path with a link before it, by which a tip of the table leads to where it begins.
-    fn back(&self, table: &Table, tail: Tail) -> Tail {
-        for e in 0..table.count {
-            let word = table.rights[e];
-            let mut cells = table.lefts[e];
-            while cells != 0 {
-                let cell = cells.trailing_zeros() as usize;
-                for k in self.one.starts[cell]..self.one.starts[cell + 1] {
-                    if self.one.to[k as usize] as usize == tail.cell
-                        && self.step(word, k) == tail.word
-                    {
-                        let [a, b, c, _] = tail.path.links;
-                        let path = Path {
-                            len: tail.path.len + 1,
-                            links: [k, a, b, c],
-                        };
-                        return Tail { cell, word, path };
-                    }
-                }
-                cells &= cells - 1;
-            }
-        }
-        unreachable!("a part has only tips one link beyond its table")
-    }
-
     /// The set of the tip that link k leads to from a tip with the set w.
     fn step(&self, w: u64, k: u16) -> u64 {
         let to = self.one.to[k as usize] as usize;
@@ -421,98 +388,106 @@ impl<const PLACES: usize> Search<'_, PLACES> {
         }
     }
 
-    /// The tips without counterpart of two classes: (x, r) and (y, s), with x in l and y in m that pass the comparison.
-    fn pick(&self, t: usize, l: u64, r: u64, m: u64, s: u64) -> Found {
-        let y = (passing(&self.one.ends[t], l) & m).trailing_zeros() as usize;
-        let mut x = l;
-        while self.one.ends[t][x.trailing_zeros() as usize] >> y & 1 == 0 {
-            x &= x - 1;
-        }
-        let tip = |cell, word| Tail {
-            cell,
-            word,
-            path: STAY,
-        };
-        Found {
-            kind: SAME + t as u8,
-            first: tip(x.trailing_zeros() as usize, r),
-            second: tip(y, s),
-        }
-    }
-
-    /// Two tips without counterpart, one of each table.
-    fn two_tips(&self, firsts: &Table, seconds: &Table) -> Option<Found> {
+    /// Whether two tips, one of each table, have no counterpart.
+    fn two_tips(&self, firsts: &Table, seconds: &Table) -> bool {
         for p in 0..firsts.count {
             let (l, r) = (firsts.lefts[p], firsts.rights[p]);
             let same = self.asked(0, l, r);
             let differ = self.asked(1, l, r);
             for q in 0..seconds.count {
                 let (m, s) = (seconds.lefts[q], seconds.rights[q]);
-                if same.fails(m, s) {
-                    return Some(self.pick(0, l, r, m, s));
-                }
-                if differ.fails(m, s) {
-                    return Some(self.pick(1, l, r, m, s));
+                if same.fails(m, s) || differ.fails(m, s) {
+                    return true;
                 }
             }
         }
-        None
+        false
     }
 
-    /// Two paths without counterpart: the first ends at the tips of the one table, the second `rest` links beyond the other's.
-    fn second(&self, labels: &[u8], firsts: &Table, seconds: &Table, rest: usize) -> Option<Found> {
-        if rest == 0 {
-            return self.two_tips(firsts, seconds);
-        }
-        let mut part = Table::empty();
-        let mut at = 0;
-        while at < ROOM * labels.len() {
-            at = self.next_part(labels, seconds, at, &mut part);
-            if let Some(found) = self.second(labels, firsts, &part, rest - 1) {
-                return Some(Found {
-                    second: self.back(seconds, found.second),
-                    ..found
-                });
-            }
-        }
-        None
-    }
-
-    /// Two paths without counterpart: the first `more` links beyond the tips of the one table, the second `rest` beyond the other's.
-    fn first(
+    /// Whether there are two paths without counterpart: one `more` links beyond the tips of the table p, the other `rest` beyond those
+    /// of q. The one is the first of the two, or the second where they are turned; then the other goes no further.
+    fn seek(
         &self,
         labels: &[u8],
-        firsts: &Table,
-        seconds: &Table,
+        p: &Table,
         more: usize,
+        q: &Table,
         rest: usize,
-    ) -> Option<Found> {
+        turned: bool,
+    ) -> bool {
         if more == 0 {
-            return self.second(labels, firsts, seconds, rest);
+            if turned {
+                return self.two_tips(q, p);
+            }
+            return self.seek(labels, q, rest, p, 0, true);
         }
         let mut part = Table::empty();
         let mut at = 0;
         while at < ROOM * labels.len() {
-            at = self.next_part(labels, firsts, at, &mut part);
-            if let Some(found) = self.first(labels, &part, seconds, more - 1, rest) {
-                return Some(Found {
-                    first: self.back(firsts, found.first),
-                    ..found
-                });
+            at = self.next_part(labels, p, at, &mut part);
+            if self.seek(labels, &part, more - 1, q, rest, turned) {
+                return true;
             }
         }
-        None
+        false
     }
 
-    /// Two paths of i and j links from x without counterpart from y.
+    /// The first path of `len` links from the tip that has no counterpart with one of the others; there is one.
+    fn first_path(
+        &self,
+        labels: &[u8],
+        tip: Tail,
+        len: usize,
+        q: &Table,
+        rest: usize,
+        turned: bool,
+    ) -> Tail {
+        let mut tail = tip;
+        while tail.path.len < len {
+            let more = len - tail.path.len - 1;
+            let end = self.one.starts[tail.cell + 1];
+            let mut k = self.one.starts[tail.cell];
+            loop {
+                let cell = self.one.to[k as usize] as usize;
+                let word = self.step(tail.word, k);
+                if k + 1 >= end || self.seek(labels, &Table::one(cell, word), more, q, rest, turned)
+                {
+                    let mut path = tail.path;
+                    path.links[path.len] = k;
+                    path.len += 1;
+                    tail = Tail { cell, word, path };
+                    break;
+                }
+                k += 1;
+            }
+        }
+        tail
+    }
+
+    /// The first two paths of i and j links from x without counterpart from y.
     fn two_paths(&self, x: usize, y: usize, i: usize, j: usize) -> Option<Reason> {
         let (labels, many) = self.one.labels_of();
-        let root = Table::root(x, y);
-        let found = self.first(&labels[..many], &root, &root, i, j)?;
+        let labels = &labels[..many];
+        let root = Table::one(x, 1 << y);
+        if !self.seek(labels, &root, i, &root, j, false) {
+            return None;
+        }
+        let tip = Tail {
+            cell: x,
+            word: 1 << y,
+            path: STAY,
+        };
+        let p = self.first_path(labels, tip, i, &root, j, false);
+        let q = self.first_path(labels, tip, j, &Table::one(p.cell, p.word), 0, true);
+        let same = self.asked(0, 1 << p.cell, p.word);
         Some(Reason {
-            kind: found.kind,
-            first: found.first.path,
-            second: found.second.path,
+            kind: if same.fails(1 << q.cell, q.word) {
+                SAME
+            } else {
+                SAME + 1
+            },
+            first: p.path,
+            second: q.path,
         })
     }
 
@@ -520,7 +495,7 @@ impl<const PLACES: usize> Search<'_, PLACES> {
     /// would be full.
     fn covering(&self, x: usize, y: usize, bound: usize) -> Option<Table> {
         let (labels, many) = self.one.labels_of();
-        let mut table = Table::root(x, y);
+        let mut table = Table::one(x, 1 << y);
         for _ in 0..bound {
             let mut next = table.clone();
             if self.fill(&labels[..many], &table, 0, &mut next) < ROOM * many {
@@ -555,7 +530,7 @@ impl<const PLACES: usize> Search<'_, PLACES> {
                 self.cut_links(cell, old.rights[cell], &mut table);
             }
         }
-        self.two_tips(&table, &table).is_none()
+        !self.two_tips(&table, &table)
     }
 
     /// A table tells that no two paths of at most `bound` links from x are without counterpart from y.
@@ -566,7 +541,7 @@ impl<const PLACES: usize> Search<'_, PLACES> {
         }
         let clash = self
             .covering(x, y, bound)
-            .map(|table| self.two_tips(&table, &table).is_some());
+            .map(|table| self.two_tips(&table, &table));
         let seen = match clash {
             Some(false) => &QUIET,
             Some(true) => &CLASHED,

@@ -75,6 +75,8 @@ uint64_t cuhnavel_check_sheet(const uint8_t *bytes, size_t len);
  *   room     at least 10 + 44 x n x m bytes. It starts with the sheet of these questions, for the bound; the bytes after the
  *            sheet are as they were.
  *   scratch  at least 16 x n x m bytes. All that is lent becomes zeros.
+ * Of two ways that part a pair, those with fewer steps in all are taken first. Which question is taken is fixed, and with it every
+ * byte of the map and the sheet: two books and a bound always give the same.
  * Accepted: first is the sheet's length in bytes, second the number of matched pairs.
  * Refused:
  *   20 the bound is above 4, part CUHNAVEL_CALL

@@ -1,4 +1,4 @@
-/* A C caller of Compare: prints each answer taken apart, but not what document 01 leaves free: the sheet's length and which entries the map names. */
+/* A C caller of Compare: prints each answer taken apart, but for the sheet's length and which entries the map names, which examples/compare.c prints. */
 #include <inttypes.h>
 #include <stdio.h>
 #include <string.h>

@@ -25,7 +25,7 @@ static void ask(const char *name, const uint8_t *sheet, size_t sheet_len, size_t
     printf("room: %.*s\n", ROOM, (const char *)room);
 }
 
-/* The question by which Compare parts (0,0) of example A at bound 1: document 01 leaves it free, and this is the one that P1 names. */
+/* The question by which Compare parts (0,0) of example A at bound 1: the one that P1 names. */
 static void ask_compare(void)
 {
     uint16_t map[PAIRS] = {0};

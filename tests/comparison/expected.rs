@@ -1,6 +1,7 @@
 //! When Compare declines, written from document 01, "The operations and when they decline".
 
 use crate::support::checks::check_book;
+use crate::support::library::needed;
 use crate::support::outcome::{refused, Outcome, CALL, LEFT_BOOK, RIGHT_BOOK};
 
 /// What Compare is asked, and how much is lent.
@@ -12,11 +13,6 @@ pub struct Asked<'a> {
     pub map: usize,
     pub room: usize,
     pub scratch: usize,
-}
-
-/// What `pairs` pairs of cells need: places of the map, bytes of room, bytes of scratch.
-pub fn needed(pairs: usize) -> (usize, usize, usize) {
-    (pairs, 10 + 44 * pairs, 16 * pairs)
 }
 
 /// The first refusal that applies, if any.

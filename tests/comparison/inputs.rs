@@ -1,9 +1,10 @@
 //! Books that are compared.
 
-use crate::expected::{needed, Asked};
+use crate::expected::Asked;
 use crate::support::books::{
-    chain, example_a_left, example_a_right, link, random_book, Book, Link,
+    book, chain, example_a_left, example_a_right, link, random_book, Book,
 };
+use crate::support::library::needed;
 use crate::support::partners::most_ways;
 use crate::support::random::Random;
 use crate::support::remade::{damaged, renumbered, split};
@@ -64,13 +65,6 @@ fn ask(
     asked.room += random.pick(&[0, 0, 1, 7, 100]);
     asked.scratch += random.pick(&[0, 0, 1, 9, 100]);
     tally.compare(asked, shape, claims);
-}
-
-fn book(recordings: &[u32], links: &[Link]) -> Book {
-    Book {
-        recordings: recordings.to_vec(),
-        links: links.to_vec(),
-    }
 }
 
 /// Document 01, P1 to P8: the pairs that it calls matched are, and those that it calls parted are not. For example A it names all.

@@ -1,6 +1,6 @@
-//! Compare, compared with a naive comparison written from document 01, section "Partners", and with the plain search of all pairs of
-//! paths, beside the plain version of its method with tables of few places. The questions that it names are checked with the naive
-//! evaluator, and by their depth and bound.
+//! Compare, compared with a naive comparison written from document 01, section "Partners", to the byte with the naive comparison by
+//! first reasons, and with the plain search of all pairs of paths, beside the plain version of its method with tables of few places.
+//! The questions that it names are checked with the naive evaluator, and by their depth and bound.
 
 mod expected;
 mod inputs;

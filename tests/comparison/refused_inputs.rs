@@ -1,7 +1,8 @@
 //! Calls that are refused: each refusal of each book, with and without each of 20 to 23, and damaged books.
 
-use crate::expected::{needed, Asked};
+use crate::expected::Asked;
 use crate::support::counts::OF_BOOK;
+use crate::support::library::needed;
 use crate::support::random::Random;
 use crate::support::refusals::{book_refused, change_byte};
 use crate::support::shapes::OTHERS;

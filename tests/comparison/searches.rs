@@ -6,7 +6,7 @@ use crate::plain_compare::{self, BY_CELLS, CLASHED, FULL, QUIET, UNKNOWN};
 use crate::support::call::Call;
 use crate::support::loops::{Dropped, Reason};
 use crate::support::outcome::Outcome;
-use crate::support::sheets::{Entry, Sheet};
+use crate::support::sheets::Sheet;
 use std::collections::BTreeMap;
 use std::sync::atomic::{AtomicUsize, Ordering};
 
@@ -35,12 +35,10 @@ static COUNTS: [(&str, &AtomicUsize); 5] = [
     ("pairs not known", &UNKNOWN),
 ];
 
-/// The cases with tables of so many places, how many have another sheet than with `PLACES`, and of all `COUNTS` what was counted
-/// and in how many cases.
+/// The cases with tables of so many places, and of all `COUNTS` what was counted and in how many cases.
 #[derive(Clone, Copy, Default)]
 struct Counted {
     cases: usize,
-    others: usize,
     counts: [usize; COUNTS.len()],
     in_cases: [usize; COUNTS.len()],
 }
@@ -67,7 +65,7 @@ impl Searches {
         let sheet = sheet_of(written.answer, written.room);
         same_reasons(call, "the library", written.map, &sheet, dropped);
         for &number in written.map.iter().filter(|&&number| number != 0) {
-            let reason = reason(&sheet, number);
+            let reason = Reason::of_entry(&sheet, number);
             if !reason.link {
                 *self.steps.entry(reason.steps).or_insert(0) += 1;
             }
@@ -89,7 +87,7 @@ impl Searches {
         }
     }
 
-    /// The plain version with tables of so many places. With `PLACES` it writes what the library writes.
+    /// The plain version with tables of so many places writes what the library writes.
     fn plain<const N: usize>(
         &mut self,
         call: &Call,
@@ -116,12 +114,11 @@ impl Searches {
         let other = answer != written.answer
             || map != written.map
             || room[..length] != written.room[..length];
-        if N == PLACES && other {
+        if other {
             call.fail(&format!("{who} does not write what the library does"));
         }
         let counted = self.by_places.entry(N).or_default();
         counted.cases += 1;
-        counted.others += other as usize;
         for (place, (_, count)) in COUNTS.iter().enumerate() {
             let more = count.load(Ordering::Relaxed) - before[place];
             counted.counts[place] += more;
@@ -139,10 +136,7 @@ impl Searches {
         );
         println!("the plain version by the places of its tables, as many steps as with all pairs of paths; how often, and in how many cases:");
         for (places, counted) in &self.by_places {
-            println!(
-                "  places {places:>3}: {:>6} cases, {:>4} with another sheet than the library's",
-                counted.cases, counted.others
-            );
+            println!("  places {places:>3}: {:>6} cases", counted.cases);
             for (place, (name, _)) in COUNTS.iter().enumerate() {
                 let (count, in_cases) = (counted.counts[place], counted.in_cases[place]);
                 println!("    {name:<20}{count:>9}{in_cases:>7}");
@@ -159,31 +153,10 @@ fn sheet_of(answer: Outcome, room: &[u8]) -> Sheet {
     Sheet::of_bytes(&room[..answer.first as usize])
 }
 
-/// The reason that an entry puts, or denies.
-fn reason(sheet: &Sheet, number: u16) -> Reason {
-    match &sheet.entries[number as usize] {
-        Entry::Not(denied) => Reason {
-            from_left: false,
-            ..reason(sheet, *denied)
-        },
-        Entry::Way(way) => Reason {
-            from_left: true,
-            link: true,
-            steps: way.len(),
-        },
-        Entry::Same(w, v) | Entry::Differ(w, v) => Reason {
-            from_left: true,
-            link: false,
-            steps: w.len() + v.len(),
-        },
-        entry => panic!("{entry:?} is no reason"),
-    }
-}
-
 /// The same pairs are parted, each from the same side, by a link or else by a comparison, with as many steps in all.
 fn same_reasons(call: &Call, who: &str, map: &[u16], sheet: &Sheet, dropped: &[Option<Dropped>]) {
     for (place, (&number, dropped)) in map.iter().zip(dropped).enumerate() {
-        let given = (number != 0).then(|| reason(sheet, number));
+        let given = (number != 0).then(|| Reason::of_entry(sheet, number));
         let expected = dropped.map(|dropped| dropped.reason);
         if given != expected {
             call.fail(&format!(

@@ -1,4 +1,4 @@
-//! Compares the library with the naive comparison, call by call, checks all that it writes, and counts the answers.
+//! Compares the library with the naive comparisons, call by call, checks all that it writes, and counts the answers.
 
 use crate::expected::{refusal, Asked};
 use crate::searches::{Searches, Written};
@@ -6,6 +6,7 @@ use crate::support::books::Book;
 use crate::support::call::Call;
 use crate::support::checks::check_sheet;
 use crate::support::counts::{Counts, OF_BOOK};
+use crate::support::described::compared;
 use crate::support::lent::Lent;
 use crate::support::library;
 use crate::support::loops::{partings, Dropped};
@@ -18,7 +19,7 @@ use crate::support::shapes::{OTHERS, SHAPES};
 use crate::support::sheets::{Entry, Sheet};
 use std::collections::BTreeMap;
 
-/// The naive comparison is in reach for so many pairs of cells times pairs of ways.
+/// The naive comparisons are in reach for so many pairs of cells times pairs of ways.
 const REACH: usize = 2_000_000;
 
 /// The pairs of one shape at one bound.
@@ -47,7 +48,7 @@ pub struct Tally {
     /// How many are no deeper than the round in which the naive comparison drops the pair.
     least: usize,
     searches: Searches,
-    /// In how many cases the naive comparison was in reach.
+    /// In how many cases the naive comparisons were in reach.
     naive: usize,
 }
 
@@ -162,6 +163,11 @@ impl Tally {
             if rounds(&one, &other, asked.bound) != by_loops {
                 call.fail("the naive comparison and all pairs of paths give different rounds");
             }
+            let by_first_reasons = compared(&one, &other, asked.bound);
+            let Written { answer, map, room } = *written;
+            if let Some(what) = by_first_reasons.difference(answer, map, room) {
+                call.fail(&what);
+            }
             self.naive += 1;
         }
         self.searches.check(call, asked, written, &dropped, ways);
@@ -261,7 +267,10 @@ impl Tally {
         println!("  by depth {shallow:?}, the deepest {deepest}");
         println!("  of the least depth that there can be: {}", self.least);
         println!("  claimed: {}", self.claims);
-        println!("the naive comparison was in reach in {} cases", self.naive);
+        println!(
+            "the naive comparisons were in reach in {} cases",
+            self.naive
+        );
         self.searches.report();
         cases
     }

@@ -23,6 +23,13 @@ pub fn link(from: u8, label: u8, to: u8) -> Link {
     Link { from, label, to }
 }
 
+pub fn book(recordings: &[u32], links: &[Link]) -> Book {
+    Book {
+        recordings: recordings.to_vec(),
+        links: links.to_vec(),
+    }
+}
+
 impl Book {
     /// The bytes of these recordings and links, whether or not a check would accept them. The fields for n and e hold as
     /// much of the counts as they can.

@@ -132,6 +132,11 @@ pub fn links(book: &[u8], cell: usize) -> Outcome {
     Outcome::of_number(unsafe { cuhnavel_links(book.as_ptr(), book.len(), cell) })
 }
 
+/// What Compare needs for so many pairs of cells: places of the map, bytes of room, bytes of scratch.
+pub fn needed(pairs: usize) -> (usize, usize, usize) {
+    (pairs, 10 + 44 * pairs, 16 * pairs)
+}
+
 /// Compare.
 pub fn compare(
     left: &[u8],

@@ -2,8 +2,9 @@
 //! Sets of cells are words, so it is in reach for larger books than the naive comparison.
 
 use super::books::Book;
+use super::sheets::{Entry, Sheet};
 
-/// What parts a pair, as far as the search promises it.
+/// What parts a pair, but for its labels and cells.
 #[derive(Clone, Copy, PartialEq, Eq, Debug)]
 pub struct Reason {
     /// It is found from the left cell, and true there; else from the right.
@@ -12,6 +13,29 @@ pub struct Reason {
     pub link: bool,
     /// The links of its one or two paths in all.
     pub steps: usize,
+}
+
+impl Reason {
+    /// The reason that an entry puts, or denies.
+    pub fn of_entry(sheet: &Sheet, number: u16) -> Reason {
+        match &sheet.entries[number as usize] {
+            Entry::Not(denied) => Reason {
+                from_left: false,
+                ..Reason::of_entry(sheet, *denied)
+            },
+            Entry::Way(way) => Reason {
+                from_left: true,
+                link: true,
+                steps: way.len(),
+            },
+            Entry::Same(w, v) | Entry::Differ(w, v) => Reason {
+                from_left: true,
+                link: false,
+                steps: w.len() + v.len(),
+            },
+            entry => panic!("{entry:?} is no reason"),
+        }
+    }
 }
 
 /// The round in which a pair is dropped, and by what.

@@ -6,6 +6,8 @@ pub mod books;
 pub mod call;
 pub mod checks;
 pub mod counts;
+pub mod described;
+pub mod first_reason;
 pub mod lent;
 pub mod library;
 pub mod loops;

@@ -1,30 +1,28 @@
 -- What each turn and each way out of the functions shows. Every number that the code computed is a variable here, with what is known of it, so
 -- that `search` finds it in a need's record. Assumes nothing.
-use mathlib.Core.Bool.{Bool, true, false, So, false≢true}
+use mathlib.Core.Bool.{true, false, So, false≢true}
 use mathlib.Core.Path.{_≡_, refl, sym, ap, _∙_}
 use mathlib.Core.Logic.{_⊎_, inl, inr, ⊎-elim}
 use mathlib.Core.List.{List}
 use Prim.Native.Nat.{ℕ, _+_, _*_, _/_, _%_, _^_, _≤_, _<_}
 use native.Mathlib.Nat.{eq-or-lt-of-le}
 use native.Mathlib.Omega.{arith}
-use borrow.Author.Tests.{eqb-true, eq-eqb, ne-eqb}
+use borrow.Author.Tests.{eqb-true}
 use lib.Bits.{bitAnd, bitOr}
-use lib.Dec.{eqb}
 use lib.ListN.{length, getD, set, length-set}
 use lib.Seq.{getD-set-same, getD-set-other}
-use Rattle.theory.specs.Tests.{never, le-or-lt, and-iff, or-iff, not-iff, facts}
+use Rattle.theory.specs.Tests.{never, le-or-lt, and-iff, or-iff, not-iff}
 use Rattle.words.specs.Words.{bit, IsLowest, IsWithout}
 use Rattle.words.specs.Laws.{bit-zero, bit-or, bit-without}
-use Rattle.hops.specs.Hops.{View, startOf, labelOf, toOf, total, hopsOf, Opened}
+use Rattle.hops.specs.Hops.{View, labelOf, toOf, total, hopsOf, Opened}
 use Rattle.hops.specs.Sets.{reached, imageOf, rowAt}
 use Rattle.tables.specs.declared.Grown.{Grown}
 use Rattle.tables.specs.Tips.{Has, Covered, Room, Grew}
 use Rattle.tables.specs.Laws.{equal-or, covered-by-has, covered-trans}
 use Rattle.classes.specs.declared.Stretch.{Stretch}
 use Rattle.classes.specs.declared.Part.{Part}
-use Rattle.classes.specs.declared.Origin.{Origin}
 use Rattle.classes.specs.Paths.{stepWord}
-use Rattle.classes.specs.Tables.{Leads, Beyond, Placed, Named, Unites, Rowed, cellsBy, setBy, Stretched, Moves, slot, Filled, leading, Joins, Comes}
+use Rattle.classes.specs.Tables.{Beyond, Placed, Named, Unites, Rowed, cellsBy, setBy, Stretched, Moves, slot, Filled}
 use Rattle.classes.specs.Laws.{spread-agrees, leaves-low, image-in, image-out}
 
 -- what is below the next number is at most this one
@@ -36,47 +34,6 @@ pub step-is : (u : View) (z : List ℕ) (w a y n m : ℕ) → n ≡ imageOf u w 
 unfolding stepWord
 step-is u z w a y n m dn dm = dm ∙ rw dn
 
--- ---- no link before k leads from the tip (x, w) to (y, o)
-pub record Free (v u : View) (z : List ℕ) (x w y o k : ℕ) : Type 0 where
-  pub each : (j : ℕ) → j < k → Leads v u z x w j y o → ⊥
-
-module _ (v u : View) (z : List ℕ) (x w y o : ℕ) where
-  pub free-start : (k : ℕ) → k ≡ startOf v x → Free v u z x w y o k
-  free-start k d = record { each = λ j l h. omega (arith, h .leaves .from) }
-
-  module _ (k : ℕ) (f : Free v u z x w y o k) where
-    pub free-next : (r : Bool) → r ≡ leading u z w (labelOf v k) (toOf v k) y o → r ≡ false → Free v u z x w y o (k + 1)
-    unfolding leading
-    free-next r d n = record {
-      each = λ j l h. ⊎-elim (λ q. off (rw q at h)) (λ s. f .each j s h) (eq-or-lt-of-le (at-most k j l));
-    }
-      where
-        off : Leads v u z x w k y o → ⊥
-        off h = false≢true (sym n ∙ d ∙ simp facts (h .to, h .word))
-
-    pub free-end : (e : ℕ) → e ≡ startOf v (x + 1) → e ≤ k → Joins v u z x w y o e
-    free-end e d l = record { there = λ h. absurd (omega arith); none = λ _ j h. f .each j (omega (arith, h .leaves .until)) h }
-
-  module _ (k e : ℕ) (d : e ≡ startOf v (x + 1)) (m : startOf v x ≤ k) (l : k < e) where
-    pub link-found : (r : Bool) → r ≡ leading u z w (labelOf v k) (toOf v k) y o → r ≡ true → Joins v u z x w y o k
-    unfolding leading
-    link-found r c t =
-        let (p, q) = simp facts at (sym c ∙ t) in
-        record {
-          there = λ _. record { leaves = record { from = m; until = omega arith }; to = p; word = q };
-          none = λ h. absurd (omega arith);
-        }
-
--- a link is the label and the node that it leads to
-pub leading-is : (u : View) (z : List ℕ) (w a t y o s : ℕ) → t ≡ y → s ≡ stepWord u z w a y → eqb s o ≡ leading u z w a t y o
-unfolding leading
-leading-is u z w a t y o s e d = rw (eq-eqb t y e, d)
-
-pub leading-off : (u : View) (z : List ℕ) (w a t y o : ℕ) → (t ≡ y → ⊥) → false ≡ leading u z w a t y o
-unfolding leading
-leading-off u z w a t y o n = rw (ne-eqb t y n)
-
--- ---- two numbers are equal, or not
 -- ---- labels: each link passed has its label in the list
 pub record Naming (labels list : List ℕ) (count k : ℕ) : Type 0 where
   pub long : length list ≡ 512
@@ -117,43 +74,6 @@ module _ (labels : List ℕ) where
       few = omega (arith, g .few);
       each = λ j b. g .each j (omega arith);
     }
-
--- ---- no tip of the table before a place leads to (y, o)
-pub record Barred (v u : View) (z ls rs : List ℕ) (y o at : ℕ) : Type 0 where
-  pub each : (e x k : ℕ) → x < 64 → 64 * e + x < at → So (bit (getD ls e 0) x) → Leads v u z x (getD rs e 0) k y o → ⊥
-
-module _ (v u : View) (z ls rs : List ℕ) (y o : ℕ) where
-  pub barred-start : Barred v u z ls rs y o 0
-  barred-start = record { each = λ e x k l m. absurd (omega arith) }
-
-  module _ (at : ℕ) (b : Barred v u z ls rs y o at) (e x : ℕ) (de : e ≡ at / 64) (dx : x ≡ at % 64) where
-    barred-more : (So (bit (getD ls e 0) x) → (k : ℕ) → Leads v u z x (getD rs e 0) k y o → ⊥) → Barred v u z ls rs y o (at + 1)
-    barred-more n = record {
-      each = λ e′ x′ k l m i h. ⊎-elim
-          (λ q.
-          let p : e′ ≡ e = omega arith in
-          let r : x′ ≡ x = omega arith in
-          n (rw (p, r) at i) k (rw (p, r) at h))
-          (λ s. b .each e′ x′ k l s i h)
-          (eq-or-lt-of-le (at-most at (64 * e′ + x′) m));
-    }
-
-    pub barred-out : (i : Bool) → i ≡ bit (getD ls e 0) x → i ≡ false → Barred v u z ls rs y o (at + 1)
-    barred-out i d f = barred-more (λ t. never (sym f ∙ d ∙ t))
-
-    pub barred-next : (k : ℕ) → Joins v u z x (getD rs e 0) y o k → startOf v (x + 1) ≤ k → Barred v u z ls rs y o (at + 1)
-    barred-next k j l = barred-more (λ _. j .none l)
-
-    pub comes : (n : ℕ) → at < 64 * n → (t : Bool) → t ≡ bit (getD ls e 0) x → t ≡ true → (k : ℕ) → Joins v u z x (getD rs e 0) y o k → k < startOf v (x + 1)
-        → (r : Origin) → r .cell ≡ x → r .word ≡ getD rs e 0 → r .link ≡ k → Comes v u z ls rs n y o r
-    comes n l t d f k j m r dc dw dk = rw (dc, dw, dk) (record {
-      has = record { class = e; below = omega arith; cell = omega arith; inside = sym d ∙ f; word = refl };
-      leads = j .there m;
-    })
-
-  pub barred-end : (at n : ℕ) → Barred v u z ls rs y o at → 64 * n ≤ at → Beyond v u z ls rs n y o → (r : Origin) → Comes v u z ls rs n y o r
-  barred-end at n b l h r =
-      absurd (b .each (h .has .class) (h .cell) (h .link) (h .has .cell) (omega (arith, h .has .below, h .has .cell)) (h .has .inside) (rw (h .has .word) (h .leads)))
 
 -- ---- sets are united
 module _ (sets : List ℕ) where

@@ -1,19 +1,17 @@
 -- The tables of tips one link beyond the tips of a table.
-use mathlib.Core.Bool.{Bool, So, true, false, _&&_}
+use mathlib.Core.Bool.{So, true, false}
 use mathlib.Core.Logic.{_⊎_}
 use mathlib.Core.Path.{_≡_}
 use mathlib.Core.List.{List}
 use Prim.Native.Nat.{ℕ, _+_, _*_, _≤_, _<_}
 use lib.Bits.{bitAnd}
-use lib.Dec.{eqb}
 use lib.ListN.{length, getD}
 use Rattle.words.specs.Words.{bit}
-use Rattle.hops.specs.Hops.{View, startOf, labelOf, toOf, total, hopsOf}
+use Rattle.hops.specs.Hops.{View, labelOf, toOf, total, hopsOf}
 use Rattle.hops.specs.Sets.{reached, spread, rowAt}
 use Rattle.tables.specs.Tips.{Has, Covered, Room}
 use Rattle.classes.specs.declared.Stretch.{Stretch}
 use Rattle.classes.specs.declared.Part.{Part}
-use Rattle.classes.specs.declared.Origin.{Origin}
 use Rattle.classes.specs.Paths.{Leaves, stepWord}
 
 -- Link k leads from the tip (x, w) to the tip (y, o).
@@ -93,17 +91,3 @@ pub record Filled (v u : View) (z labels : List ℕ) (many : ℕ) (ls rs : List 
       → Covered ls′ rs′ (p .count) (toOf v k) (stepWord u z (getD rs e 0) (labelOf v k) (toOf v k))
   pub further : count ≤ 64 → at < 128 * many → at < p .next
   pub most : p .next ≤ 128 * many
-
--- A link with the label a to node t leads from a tip with the set w to the tip (y, o).
-unfoldable pub leading : View → List ℕ → ℕ → ℕ → ℕ → ℕ → ℕ → Bool
-leading u z w a t y o = eqb t y && eqb (stepWord u z w a y) o
-
--- A link that leads from the tip (x, w) to the tip (y, o), or none: where the links out of x end.
-pub record Joins (v u : View) (z : List ℕ) (x w y o k : ℕ) : Type 0 where
-  pub there : k < startOf v (x + 1) → Leads v u z x w k y o
-  pub none : startOf v (x + 1) ≤ k → (j : ℕ) → Leads v u z x w j y o → ⊥
-
--- A tip of the table and a link that leads from it to the tip (y, o).
-pub record Comes (v u : View) (z ls rs : List ℕ) (n y o : ℕ) (s : Origin) : Type 0 where
-  pub has : Has ls rs n (s .cell) (s .word)
-  pub leads : Leads v u z (s .cell) (s .word) (s .link) y o

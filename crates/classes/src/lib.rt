@@ -2,11 +2,11 @@
 // link more, and which link leads to a tip.
 ghost use mathlib.Core.Path.{_≡_};
 ghost use Prim.Native.Nat.{_*_, _≤_, _<_};
-ghost use lib.ListN.{length, getD};
+ghost use lib.ListN.{length};
 ghost use Rattle.hops.specs.Hops.{viewOf, total, Opened};
 ghost use Rattle.classes.specs.Paths.{stepWord};
 ghost use Rattle.tables.specs.Tips.{Room};
-ghost use Rattle.classes.specs.Tables.{Beyond, Placed, Named, Unites, Rowed, Stretched, Filled, leading, Joins, Comes};
+ghost use Rattle.classes.specs.Tables.{Placed, Named, Unites, Rowed, Stretched, Filled};
 
 // The cells that a link with the label leads to from a cell of w, of those related to y.
 pub fn step(
@@ -200,103 +200,5 @@ pub fn fill(
     Part {
         count,
         next: 128 * many,
-    }
-}
-
-// Whether link k leads from a tip with the set w to the tip (y, o).
-fn leads(
-    la: &[u16; 512],
-    ta: &[u8; 512],
-    sb: &[u16; 65],
-    lb: &[u16; 512],
-    tb: &[u8; 512],
-    z: &[u64; 64],
-    w: u64,
-    k: u16,
-    y: u8,
-    o: u64,
-) -> bool
-    requires { ⌜ Opened (now sb) (now tb) × (k < 512) × (y < 64) ⌝ }
-    ensures { λ r. ⌜ r ≡ leading (viewOf (now (sb .entry)) (now (lb .entry)) (now (tb .entry))) (now (z .entry)) w (getD (now (la .entry)) k 0) (getD (now (ta .entry)) k 0) y o ⌝ }
-{
-    if ta[k as usize] == y {
-        return step(sb, lb, tb, z, w, la[k as usize], y) == o;
-    }
-    false
-}
-
-// The first link that leads from the tip (x, w) to the tip (y, o), or where the links out of x end.
-fn link_into(
-    sa: &[u16; 65],
-    la: &[u16; 512],
-    ta: &[u8; 512],
-    sb: &[u16; 65],
-    lb: &[u16; 512],
-    tb: &[u8; 512],
-    z: &[u64; 64],
-    x: u8,
-    w: u64,
-    y: u8,
-    o: u64,
-) -> u16
-    requires { ⌜ Opened (now sa) (now ta) × Opened (now sb) (now tb) × (x < 64) × (y < 64) ⌝ }
-    ensures { λ r. ⌜ Joins (viewOf (now (sa .entry)) (now (la .entry)) (now (ta .entry))) (viewOf (now (sb .entry)) (now (lb .entry)) (now (tb .entry))) (now (z .entry)) x w y o r ⌝ }
-{
-    let until = sa[x as usize + 1];
-    let mut k = sa[x as usize];
-    while k < until {
-        if leads(la, ta, sb, lb, tb, z, w, k, y, o) {
-            return k;
-        }
-        k += 1;
-    }
-    until
-}
-
-// A tip of a table, and a link that leads on from it.
-pub struct Origin {
-    pub cell: u8,
-    pub word: u64,
-    pub link: u16,
-}
-
-// The tip of a table and the link that lead to the tip (y, o).
-pub fn back(
-    sa: &[u16; 65],
-    la: &[u16; 512],
-    ta: &[u8; 512],
-    sb: &[u16; 65],
-    lb: &[u16; 512],
-    tb: &[u8; 512],
-    z: &[u64; 64],
-    lefts: &[u64; 128],
-    rights: &[u64; 128],
-    n: usize,
-    y: u8,
-    o: u64,
-) -> Origin
-    requires { ⌜ Opened (now sa) (now ta) × Opened (now sb) (now tb) × (n ≤ 128) × (y < 64) × Beyond (viewOf (now sa) (now la) (now ta)) (viewOf (now sb) (now lb) (now tb)) (now z) (now lefts) (now rights) n y o ⌝ }
-    ensures { λ r. ⌜ Comes (viewOf (now (sa .entry)) (now (la .entry)) (now (ta .entry))) (viewOf (now (sb .entry)) (now (lb .entry)) (now (tb .entry))) (now (z .entry)) (now (lefts .entry)) (now (rights .entry)) n y o r ⌝ }
-{
-    let mut at = 0;
-    while at < 64 * n {
-        let e = at / 64;
-        let x = (at % 64) as u8;
-        at += 1;
-        if words::has(lefts[e], x) {
-            let link = link_into(sa, la, ta, sb, lb, tb, z, x, rights[e], y, o);
-            if link < sa[x as usize + 1] {
-                return Origin {
-                    cell: x,
-                    word: rights[e],
-                    link,
-                };
-            }
-        }
-    }
-    Origin {
-        cell: 0,
-        word: 0,
-        link: 0,
     }
 }

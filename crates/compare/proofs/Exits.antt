@@ -1,31 +1,37 @@
 -- What each way out of Compare shows of the definitions of `specs/`, in the form in which `search` finds it. Assumes nothing.
-use mathlib.Core.List.{List, _++_, append-assoc}
+use mathlib.Core.List.{List, _++_}
 use mathlib.Core.Path.{_≡_, refl, sym, ap, ap₂, _∙_}
 use Prim.Native.Nat.{ℕ, _+_, _*_, _^_, _≤_, _<_}
 use native.Mathlib.Omega.{arith}
+use mir.Syntax.{w8}
+use mir.Val.{Fits}
 use borrow.Author.Tests.{lt-ltb, le-ltb, eq-eqb, ne-eqb}
-use lib.ListN.{length, take, drop, replicate, take-append-drop}
-use lib.Seq.{sets, length-sets}
+use lib.ListN.{length, getD, drop, replicate, take-append-drop}
+use lib.Seq.{sets}
 use Rattle.theory.specs.Bisimulation.{twoSided}
 use Rattle.outcome.specs.Outcome.{code}
 use Rattle.book.specs.Book.{cellsOf, bookRefusal}
 use Rattle.book.specs.BookGraph.{graphOf}
-use Rattle.book.specs.Accepted.{book-sizes, book-graph}
+use Rattle.book.specs.Accepted.{book-sizes}
 use Rattle.sheet.specs.Entry.{Entry}
-use Rattle.sheet.specs.Sheet.{headSize, lengthOf, countOf, questionOf, sheetAnswer}
-use Rattle.sheet.specs.Encoding.{encode, header, sheetBytes}
-use Rattle.sheet.specs.Written.{Writable, header-length, written-length, written-answer, written-count, written-question}
-use Rattle.sheet.specs.declared.SheetAnswer.the-variants.{Accepted}
+use Rattle.sheet.specs.Sheet.{headSize}
+use Rattle.sheet.specs.Encoding.{header, sheetBytes}
+use Rattle.sheet.specs.Written.{Writable, written-length}
 use Rattle.sheet_writer.specs.Writing.{Holding, holding-sheet, sheet-kept-after}
-use Rattle.refinement.specs.Places.{placed, zeros, zeros-nonzeros}
+use Rattle.refinement.specs.Places.{zeros, zeros-nonzeros}
 use Rattle.refinement.specs.Refining.{Compared}
-use Rattle.refinement.specs.Theorems.{zeroPairs-settled, zeroPairs-greatest, zero-agrees, nonzero-simplest, compared-writable, compared-room}
+use Rattle.refinement.specs.Theorems.{compared-writable, compared-room}
 use Rattle.describing.specs.declared.Pen.{Pen}
 use Rattle.comparing.specs.Comparing.{Lent, Fills}
 use Rattle.compare.specs.declared.CompareAnswer.{CompareAnswer}
 use Rattle.compare.specs.declared.CompareAnswer.the-variants as says
-use Rattle.compare.specs.Compare.{pairsOf, lentAnswer, compareAnswer, compareOutcome, sheetIn, Comparison, Lists, Leaves, rightAnswer, lent, IsCompare, IsCompareCode}
+use Rattle.compare.specs.Compare.{pairsOf, lentAnswer, compareAnswer, compareOutcome, comparedMap, comparedSheet, Lists, leftBy, rightAnswer, lent, IsCompare, IsCompareCode}
+use Rattle.compare.specs.Promises.{Given, map-places, sheet-fits}
 use Rattle.compare.specs.Laws.{books-accepted, accepts-compared, compared-accepts, pairs-most}
+
+-- three lists are these
+lists-ext : {map map′ room room′ scratch scratch′ : List ℕ} → map ≡ map′ → room ≡ room′ → scratch ≡ scratch′ → lent map room scratch ≡ lent map′ room′ scratch′
+lists-ext p q r = λ i. record { map = p i; room = q i; scratch = r i }
 
 -- ---- the sheet, once its header is written
 
@@ -48,17 +54,11 @@ module _ {l r : List ℕ} {c : ℕ} {map : List ℕ} {room : List ℕ} (given : 
   sheet-length : length (sheetBytes c entries) ≡ pen .at
   sheet-length = written-length writable ∙ sym (held .place)
 
-  sheet-fits : pen .at ≤ 10 + 44 * pairsOf l r
-  sheet-fits =
-      let h = compared-room compared (given .bound) (book-sizes l (given .leftAccepted) .few) (book-sizes r (given .rightAccepted) .few) in
-      omega (arith, sheet-length)
-
   -- the sheet's length and the count of zeros fit their numbers
-  sheet-small : pen .at < 2 ^ 24
-  sheet-small = omega (arith, sheet-fits, pairs-most l r (given .leftAccepted) (given .rightAccepted))
-
   pub sheet-narrow : pen .at < 2 ^ 32
-  sheet-narrow = omega (arith, sheet-small)
+  sheet-narrow =
+      let h = compared-room compared (given .bound) (book-sizes l (given .leftAccepted) .few) (book-sizes r (given .rightAccepted) .few) in
+      omega (arith, sheet-length, pairs-most l r (given .leftAccepted) (given .rightAccepted))
 
   pub count-narrow : (count : ℕ) → count ≡ zeros map′ → count < 2 ^ 32
   count-narrow count e = omega (arith, zeros-nonzeros map′, compared .size, pairs-most l r (given .leftAccepted) (given .rightAccepted))
@@ -66,55 +66,28 @@ module _ {l r : List ℕ} {c : ℕ} {map : List ℕ} {room : List ℕ} (given : 
   pub header-room : headSize ≤ length filled
   header-room = omega (arith, held .inside, held .place)
 
+  -- what is defined is what is there
+  sheet-is : sheetBytes c entries ≡ comparedSheet l r c
+  sheet-is = ap (sheetBytes c) (compared .entries)
+
   module _ {room′ : List ℕ} (w : room′ ≡ sets filled 0 (header (pen .at) c (pen .next))) where
     headed : room′ ≡ sets filled 0 (header (pen .at) c (length entries))
     unfolding entries
     headed = w ∙ ap (λ n. sets filled 0 (header (pen .at) c n)) (t .finished .penned .number)
 
-    starts : take (pen .at) room′ ≡ sheetBytes c entries
-    starts = holding-sheet held c headed
-
-    length-told : lengthOf room′ ≡ pen .at
-    unfolding sheetBytes
-    length-told =
-        let total = headSize + length (encode entries) in
-        let whole : room′ ≡ header total c (length entries) ++ (encode entries ++ drop (pen .at) room′) =
-        sym (take-append-drop (pen .at) room′) ∙ ap (λ s. s ++ drop (pen .at) room′) starts ∙ append-assoc (header total c (length entries)) (encode entries) _ in
-        ap lengthOf whole ∙ header-length total c (length entries) _ (omega (arith, held .place, sheet-small)) ∙ sym (held .place)
-
-    sheet-is : sheetIn room′ ≡ sheetBytes c entries
-    sheet-is = ap (λ n. take n room′) length-told ∙ starts
-
-    comparison : Comparison l r c room map′ room′
-    comparison =
-        let wl = book-graph l (given .leftAccepted) in
-        let wr = book-graph r (given .rightAccepted) in
-        record {
-          places = compared .size;
-          accepted = ap sheetAnswer sheet-is ∙ written-answer writable ∙ ap (λ q. Accepted q c) (sym (ap countOf sheet-is ∙ written-count writable));
-          size = ap length w ∙ length-sets filled 0 (header (pen .at) c (pen .next)) ∙ t .behind .size;
-          fits = rw length-told sheet-fits;
-          inside = rw length-told (omega (arith, held .inside, t .behind .size));
-          unchanged = rw length-told (sheet-kept-after held c headed (pen .at) (omega (arith, held .place)) ∙ t .behind .kept (pen .at) (omega arith));
-          matching = zeroPairs-settled wl wr compared;
-          greatest = zeroPairs-greatest wl wr compared;
-          agrees = zero-agrees wl wr compared;
-          parts = λ i j o u e.
-              let (n, d, s) = nonzero-simplest wl wr compared i j o u e in
-              let same : questionOf (sheetIn room′) (placed (cellsOf r) map′ i j) ≡ _ = ap (λ s. questionOf s (placed (cellsOf r) map′ i j)) sheet-is ∙ written-question writable _ in
-              record {
-                named = rw (sheet-is, written-count writable) n;
-                simplest = rw same s;
-                shallow = rw same d;
-              };
-        }
+    -- the room starts with the sheet, and what follows it is as it was
+    room-is : room′ ≡ comparedSheet l r c ++ drop (length (comparedSheet l r c)) room
+    room-is =
+        sym (take-append-drop (pen .at) room′)
+        ∙ ap₂ _++_ (holding-sheet held c headed) (sheet-kept-after held c headed (pen .at) (omega (arith, held .place)) ∙ t .behind .kept (pen .at) (omega arith))
+        ∙ ap (λ n. sheetBytes c entries ++ drop n room) (sym sheet-length) ∙ ap (λ s. s ++ drop (length s) room) sheet-is
 
     -- Compare has served the caller
     pub all-served : {scratch scratch′ : List ℕ} {count : ℕ} → 16 * pairsOf l r ≤ length scratch → scratch′ ≡ replicate (length scratch) 0 → count ≡ zeros map′
         → IsCompare l r c (lent map room scratch) (says.Compared (pen .at) count) (lent map′ room′ scratch′)
-    unfolding Leaves
+    unfolding leftBy
     all-served h z n =
-        let told = accepts-compared l r c (length map) (length room) _ (lengthOf room′) (zeros map′) (record {
+        let told = accepts-compared l r c (length map) (length room) _ (length (comparedSheet l r c)) (zeros (comparedMap l r c)) (record {
           bound = given .bound;
           left = given .leftAccepted;
           right = given .rightAccepted;
@@ -123,8 +96,8 @@ module _ {l r : List ℕ} {c : ℕ} {map : List ℕ} {room : List ℕ} (given : 
           spare = h;
         }) in
         record {
-          answer = ap₂ says.Compared (sym length-told) n ∙ sym told;
-          lists = rw told (record { comparison = comparison; scratch = z });
+          answer = ap₂ says.Compared (sym sheet-length ∙ ap length sheet-is) (n ∙ ap zeros (compared .places)) ∙ sym told;
+          lists = rw told (lists-ext (compared .places) room-is z);
         }
 
 -- ---- what is lent
@@ -152,43 +125,43 @@ module _ (l r : List ℕ) (n m : ℕ) (d : n ≡ cellsOf l) (e : m ≡ cellsOf r
 -- ---- what is declined
 
 module _ (l r : List ℕ) (c : ℕ) (b : Lists) where
-  declined : (a : CompareAnswer) → rightAnswer l r c b b ≡ a → Leaves l r c b b a → IsCompare l r c b a b
+  declined : (a : CompareAnswer) → rightAnswer l r c b ≡ a → b ≡ leftBy l r c b a → IsCompare l r c b a b
   declined a e k = record { answer = sym e; lists = rw e k }
 
   pub bound-above : 4 < c → IsCompare l r c b says.BoundAbove b
-  unfolding compareAnswer Leaves
+  unfolding compareAnswer leftBy
   bound-above h = declined says.BoundAbove (simp (lt-ltb 4 c h)) refl
 
   module _ (low : c ≤ 4) where
     pub left-refused : (refusal : ℕ) → refusal ≡ bookRefusal l → (refusal ≡ 0 → ⊥) → IsCompare l r c b (says.LeftRefused refusal) b
-    unfolding compareAnswer Leaves
+    unfolding compareAnswer leftBy
     left-refused refusal e f = rw e (declined (says.LeftRefused (bookRefusal l)) (simp (le-ltb 4 c low, ne-eqb (bookRefusal l) 0 (rw e at f))) refl)
 
     -- none of the left book
     pub right-refused : (none refusal : ℕ) → none ≡ bookRefusal l → none ≡ 0 → refusal ≡ bookRefusal r → (refusal ≡ 0 → ⊥)
         → IsCompare l r c b (says.RightRefused refusal) b
-    unfolding compareAnswer Leaves
+    unfolding compareAnswer leftBy
     right-refused none refusal d z e f =
         rw e (declined (says.RightRefused (bookRefusal r)) (simp (le-ltb 4 c low, eq-eqb (bookRefusal l) 0 (sym d ∙ z), ne-eqb (bookRefusal r) 0 (rw e at f))) refl)
 
     module _ (left : bookRefusal l ≡ 0) (right : bookRefusal r ≡ 0) (n m : ℕ) (d : n ≡ cellsOf l) (e : m ≡ cellsOf r) where
       -- what is lent is judged by the number of pairs
-      lent-declined : (a : CompareAnswer) → lentAnswer (n * m) (length (b .map)) (length (b .room)) (length (b .scratch)) (lengthOf (b .room)) (zeros (b .map)) ≡ a
-          → Leaves l r c b b a → IsCompare l r c b a b
+      lent-declined : (a : CompareAnswer) → lentAnswer (n * m) (length (b .map)) (length (b .room)) (length (b .scratch)) (length (comparedSheet l r c)) (zeros (comparedMap l r c)) ≡ a
+          → b ≡ leftBy l r c b a → IsCompare l r c b a b
       lent-declined a k = declined a (books-accepted l r c _ _ _ _ _ low left right ∙ rw (d, e) at k)
 
       pub map-length : (length (b .map) ≡ n * m → ⊥) → IsCompare l r c b says.MapLength b
-      unfolding lentAnswer Leaves
+      unfolding lentAnswer leftBy
       map-length f = lent-declined says.MapLength (simp (ne-eqb (length (b .map)) (n * m) f)) refl
 
       module _ (places : length (b .map) ≡ n * m) where
         pub few-room : length (b .room) < 10 + 44 * (n * m) → IsCompare l r c b says.FewRoom b
-        unfolding lentAnswer Leaves
+        unfolding lentAnswer leftBy
         few-room h = lent-declined says.FewRoom (simp (eq-eqb (length (b .map)) (n * m) places, lt-ltb (length (b .room)) (10 + 44 * (n * m)) h)) refl
 
         module _ (roomy : 10 + 44 * (n * m) ≤ length (b .room)) where
           pub few-scratch : length (b .scratch) < 16 * (n * m) → IsCompare l r c b says.FewScratch b
-          unfolding lentAnswer Leaves
+          unfolding lentAnswer leftBy
           few-scratch h =
               lent-declined says.FewScratch
               (simp (eq-eqb (length (b .map)) (n * m) places, le-ltb (length (b .room)) (10 + 44 * (n * m)) roomy, lt-ltb (length (b .scratch)) (16 * (n * m)) h)) refl
@@ -207,26 +180,28 @@ module _ (a : CompareAnswer) (sheet count : ℕ) (d : a ≡ says.Compared sheet 
   pub count-bits : compareOutcome a .second < 2 ^ 24 → count < 2 ^ 24
   count-bits h = rw d at h
 
-module _ {l r : List ℕ} {c : ℕ} {before now : Lists} {a : CompareAnswer} (t : IsCompare l r c before a now) where
-  -- the values of an answer
-  values : (x : CompareAnswer) → x ≡ rightAnswer l r c before now → Leaves l r c before now x → (compareOutcome x .first < 2 ^ 24) × (compareOutcome x .second < 2 ^ 24)
-  unfolding Leaves
-  values (says.Compared sheet count) e s =
-      let (g, d, n) = compared-accepts l r c _ _ _ _ _ sheet count e in
-      let most = pairs-most l r (g .left) (g .right) in
-      (omega (arith, d, s .comparison .fits), omega (arith, n, zeros-nonzeros (now .map), s .comparison .places))
-  values says.BoundAbove e s = (omega arith, omega arith)
-  values (says.LeftRefused refusal) e s = (omega arith, omega arith)
-  values (says.RightRefused refusal) e s = (omega arith, omega arith)
-  values says.MapLength e s = (omega arith, omega arith)
-  values says.FewRoom e s = (omega arith, omega arith)
-  values says.FewScratch e s = (omega arith, omega arith)
+module _ (l r : List ℕ) (c : ℕ) (before now : Lists) (a : CompareAnswer) (t : IsCompare l r c before a now) where
+  module _ (bl : (i : ℕ) → Fits w8 (getD l i 0)) (br : (i : ℕ) → Fits w8 (getD r i 0)) where
+    -- the values of an answer
+    values : (x : CompareAnswer) → x ≡ rightAnswer l r c before → (compareOutcome x .first < 2 ^ 24) × (compareOutcome x .second < 2 ^ 24)
+    values (says.Compared sheet count) e =
+        let (g, d, n) = compared-accepts l r c _ _ _ _ _ sheet count e in
+        let books : Given l r c =
+        record { bytes = (record { each = λ i. bl i .fits }, record { each = λ i. br i .fits }); left = g .left; right = g .right; bound = g .bound } in
+        let most = pairs-most l r (g .left) (g .right) in
+        (omega (arith, d, sheet-fits books), omega (arith, n, zeros-nonzeros (comparedMap l r c), map-places books))
+    values says.BoundAbove e = (omega arith, omega arith)
+    values (says.LeftRefused refusal) e = (omega arith, omega arith)
+    values (says.RightRefused refusal) e = (omega arith, omega arith)
+    values says.MapLength e = (omega arith, omega arith)
+    values says.FewRoom e = (omega arith, omega arith)
+    values says.FewScratch e = (omega arith, omega arith)
 
-  pub first-small : compareOutcome a .first < 2 ^ 24
-  first-small = values a (t .answer) (rw (t .answer) (t .lists)) .0
+    pub first-small : compareOutcome a .first < 2 ^ 24
+    first-small = values a (t .answer) .0
 
-  pub second-small : compareOutcome a .second < 2 ^ 24
-  second-small = values a (t .answer) (rw (t .answer) (t .lists)) .1
+    pub second-small : compareOutcome a .second < 2 ^ 24
+    second-small = values a (t .answer) .1
 
   pub compare-coded : (v : ℕ) → v ≡ code (compareOutcome a) → IsCompareCode l r c before v now
   compare-coded v e = record { answer = e ∙ ap (λ a. code (compareOutcome a)) (t .answer); lists = t .lists }

@@ -1,3 +1,4 @@
 pub mod Compare
 pub mod Laws
+pub mod Promises
 pub mod Demands

@@ -1,20 +1,14 @@
 -- What each function of the crate shows of the definitions of `specs/`, in the form in which `search` finds it. Assumes nothing.
 use mathlib.Core.List.{List, [], _∷_}
-use mathlib.Core.Logic.{⊎-elim}
 use mathlib.Core.Path.{_≡_, refl, ap, _∙_}
-use mathlib.Core.Bool.{true, false≢true}
-use Prim.Native.Nat.{ℕ, zero, suc, _+_, _≤_, _<_}
+use Prim.Native.Nat.{ℕ, _*_, _≤_}
 use native.Mathlib.Omega.{arith}
 use mir.Syntax.{w8}
 use mir.Val.{Fits}
 use lib.ListN.{length, getD, replicate}
 use lib.Seq.{length-sets}
-use Rattle.fields.specs.Laws.{field-lt}
-use Rattle.theory.specs.Search.{list}
-use Rattle.theory.specs.Tests.{facts}
-use Rattle.theory.specs.Graph.{same, differ, Link, has}
-use Rattle.book.specs.Book.{cellsOf, linksOf, labelWidth, linkIn, linkAt, linkPlace, bookRefusal}
-use Rattle.book.specs.BookGraph.{graphOf}
+use Rattle.theory.specs.Graph.{same, differ}
+use Rattle.book.specs.Book.{cellsOf, linksOf, bookRefusal}
 use Rattle.book.specs.Accepted.{book-sizes, book-graph}
 use Rattle.edges.specs.BookEdges.{Loaded, passing}
 use Rattle.hops.specs.Hops.{Starts}
@@ -23,12 +17,14 @@ use Rattle.sheet.specs.Entry.{truth}
 use Rattle.sheet.specs.Encoding.{encodeEntry}
 use Rattle.sheet.specs.Written.{sizeOf}
 use Rattle.sheet_writer.specs.Writing.{Wrote, holding-none, holding-next, kept-after}
-use Rattle.refinement.specs.Entries.{Narrow}
+use Rattle.search.specs.BookReasons.{compared-symmetric}
+use Rattle.refinement.specs.Comparison.{begin}
 use Rattle.refinement.specs.Comparing.{blank-replicate, begun-refined}
 use Rattle.describing.specs.declared.Pen.{Pen}
-use Rattle.settling.specs.Settling.{Books}
+use Rattle.settling.specs.Settling.{Books, stateOf}
 use Rattle.turns.specs.Turns.{Opening}
 use Rattle.refining.specs.Refining.{Refines}
+use Rattle.comparing.specs.Laws.{narrow}
 use Rattle.comparing.specs.Comparing.{IsRead, Lent, Started, Fills}
 
 -- ---- a book, read
@@ -37,19 +33,6 @@ pub read-whole : (s fs ls ts starts ends alike unlike : List ℕ) (count : ℕ) 
     → Starts count fs starts → alike ≡ passing s same → unlike ≡ passing s differ → Paired alike unlike ends → IsRead s ls ts starts ends
 read-whole s fs ls ts starts ends alike unlike count r d n t a u p =
     record { from = fs; read = record { accepted = r; loaded = d; table = rw n at t; rows = rw (a, u) at p } }
-
--- a label that all of some links are below
-label-below : (n : ℕ) (f : ℕ → Link) (most : ℕ) → ((i : ℕ) → f i .label < most) → (x a y : ℕ) → has (list n f) x a y ≡ true → a < most
-unfolding has list
-label-below zero f most h x a y e = absurd (false≢true e)
-label-below (suc n) f most h x a y e =
-    ⊎-elim (λ u. let (_, (l, _)) = simp facts at u in rw (← l) (h 0)) (λ u. label-below n (λ i. f (suc i)) most (λ i. h (suc i)) x a y u) (simp facts at e)
-
--- a label of a book's byte has room in a step
-narrow : (s : List ℕ) → ((i : ℕ) → Fits w8 (getD s i 0)) → Narrow (graphOf s)
-unfolding linkAt linkIn labelWidth
-narrow s f =
-    record { label = label-below (linksOf s) (linkAt s) 256 (λ k. field-lt 1 s (linkPlace s k + 1) (record { each = λ i. f i .fits })) }
 
 -- ---- the first entry
 
@@ -74,14 +57,16 @@ module _ {left right : List ℕ} {c : ℕ} {map room : List ℕ} (given : Lent l
         rightFrom = y .from;
         leftRead = x .read;
         rightRead = y .read;
-        leftNarrow = narrow left f;
-        rightNarrow = narrow right g;
+        leftNarrow = narrow left (record { each = λ i. f i .fits });
+        rightNarrow = narrow right (record { each = λ i. g i .fits });
         bound = given .bound;
       }
 
   module _ {map′ room′ : List ℕ} {pen : Pen} (first : Started map map′ room room′ pen) where
     pub opened : Opening left right c room′ pen map′ (replicate 64 0) (replicate 64 0)
+    unfolding begin
     opened =
+        let blank : map′ ≡ replicate (cellsOf left * cellsOf right) 0 = first .blank ∙ ap (λ n. replicate n 0) (given .places) in
         let wide = blank-replicate (cellsOf left) 64 (book-sizes left (given .leftAccepted) .few) in
         let wide′ = blank-replicate (cellsOf right) 64 (book-sizes right (given .rightAccepted) .few) in
         record {
@@ -89,8 +74,8 @@ module _ {left right : List ℕ} {c : ℕ} {map room : List ℕ} (given : Lent l
           entries = truth ∷ [];
           penned = first .penned;
           refined = rw (first .penned .number)
-              (begun-refined (book-graph left (given .leftAccepted)) (book-graph right (given .rightAccepted))
-              (record { entries = refl; map = first .blank ∙ ap (λ n. replicate n 0) (given .places); oldLeft = wide; oldRight = wide′; newLeft = wide; newRight = wide′ }));
+              (begun-refined (book-graph left (given .leftAccepted)) (book-graph right (given .rightAccepted)) (compared-symmetric _) (compared-symmetric _)
+              (record { entries = refl; map = blank; oldLeft = wide; oldRight = wide′; newLeft = wide; newRight = wide′; is = ap (λ (m : List ℕ). stateOf (truth ∷ []) m (replicate 64 0) (replicate 64 0) (replicate 64 0) (replicate 64 0)) blank }));
           leftWide = refl;
           rightWide = refl;
           roomy = rw (first .behind .size) (given .roomy);

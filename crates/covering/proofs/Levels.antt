@@ -1,12 +1,12 @@
 -- Tables that cover the tips of all paths of at most k links: what each turn and each way out show. Assumes nothing.
-use mathlib.Core.Bool.{So}
+use mathlib.Core.Bool.{Bool, true, So, not}
 use mathlib.Core.Path.{_≡_, refl, sym, ap, _∙_}
 use mathlib.Core.Logic.{_⊎_, inl, inr, ⊎-elim}
 use mathlib.Core.List.{List, [], _∷_}
 use Prim.Native.Nat.{ℕ, zero, suc, _+_, _*_, _^_, _≤_, _<_}
 use native.Mathlib.Nat.{eq-or-lt-of-le}
 use native.Mathlib.Omega.{arith}
-use borrow.Author.Tests.{eqb-true, eq-eqb}
+use borrow.Author.Tests.{eqb-true, eq-eqb, not-true}
 use lib.Bits.{bitAnd}
 use lib.ListN.{length, getD, set, length-set, replicate, getD-replicate}
 use lib.Seq.{getD-set-same, getD-set-other}
@@ -21,7 +21,6 @@ use Rattle.classes.specs.declared.Part.{Part}
 use Rattle.classes.specs.Paths.{Leaves, Trail, endOf, stepWord, endsOver}
 use Rattle.classes.specs.Tables.{Named, Filled}
 use Rattle.classes.specs.Laws.{leaves-below, step-inside}
-use Rattle.routes.specs.declared.Found.{Found}
 use Rattle.routes.specs.Pairs.{fault, failure, alone}
 use Rattle.routes.specs.Laws.{fault-inside}
 use Rattle.routes.specs.Tails.{Met}
@@ -214,7 +213,7 @@ module _ (v u : View) (z : List ℕ) (x y : ℕ) where
   }
     where
       none : (p : List ℕ) → length p ≤ 0 → Covered (set ls 0 a) (set rs 0 b) 1 (endOf v x p) (endsOver v u z (2 ^ y) p)
-      none [] l = covered-by-has _ _ _ x (2 ^ y) (one-has ls rs x y a b da db low ll lr)
+      none [] l = covered-by-has _ _ _ x (2 ^ y) (one-has ls rs x (2 ^ y) a b da db ll lr low)
       none (j ∷ p) l = absurd (omega arith)
 
   -- and so does a table with a class a cell that covers it
@@ -263,11 +262,11 @@ module _ (v u : View) (z : List ℕ) (x y : ℕ) where
         reached-more ls′ rs′ 64 (celled-room ls′ rs′ (f .celled)) (λ a w g. f .kept a w (rw d at g)) (λ a w j g t. f .whole a w j (rw d at g) t)
 
     -- where no two tips of the table fail, no two paths do
-    pub reached-none : (c : ℕ) → c ≤ k → (ea eb : List ℕ) (f : Found) → Met ea eb ls rs n ls rs n f → f .kind ≡ 0 → NoneFails v u z ea eb x y c
+    pub reached-none : (c : ℕ) → c ≤ k → (ea eb : List ℕ) (f : Bool) → Met ea eb ls rs n ls rs n f → not f ≡ true → NoneFails v u z ea eb x y c
     unfolding failure alone fault
     reached-none c l ea eb f m e = record {
       each = λ p q tp lp tq lq.
           let a = h .each p tp (omega arith) in
           let b = h .each q tq (omega arith) in
-          fault-inside ea eb _ _ _ _ _ _ (a .inside) (b .inside) (m .none e _ _ _ _ (a .has) (b .has));
+          fault-inside ea eb _ _ _ _ _ _ (a .inside) (b .inside) (m .none (not-true _ e) _ _ _ _ (a .has) (b .has));
     }

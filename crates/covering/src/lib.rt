@@ -132,8 +132,7 @@ fn by_cells(
         cut_cells(sa, la, ta, sb, lb, tb, z, &l, &r, &mut lefts, &mut rights);
         k += 1;
     }
-    let f = routes::two_tips(ea, eb, &lefts, &rights, 64, &lefts, &rights, 64);
-    f.kind == 0
+    !routes::two_tips(ea, eb, &lefts, &rights, 64, &lefts, &rights, 64)
 }
 
 // True only where no two paths of at most c links from x fail. It goes by the smallest sets of each cell. It is false where two of these tips
@@ -191,8 +190,7 @@ fn by_classes(
         n = p.count;
         k += 1;
     }
-    let f = routes::two_tips(ea, eb, &lefts, &rights, n, &lefts, &rights, n);
-    f.kind == 0
+    !routes::two_tips(ea, eb, &lefts, &rights, n, &lefts, &rights, n)
 }
 
 // True only where no two paths of at most c links from x fail. It is false where two do, and where neither table can tell.

@@ -8,7 +8,7 @@ use lib.ListN.{getD, set, length-set}
 use Rattle.sheet.specs.Entry.{conjunction}
 use Rattle.sheet.specs.Written.{sizeOf}
 use Rattle.sheet_writer.specs.Writing.{Wrote}
-use Rattle.refinement.specs.Refining.{conjoined, conjoint}
+use Rattle.refinement.specs.Comparison.{conjoined, conjoint}
 use Rattle.describing.specs.Describing.{Roomy, Conjoins, NameFits, Names}
 use Rattle.describing.specs.Laws.{extends-none, extends-one, extends-more}
 use Rattle.describing.specs.declared.Pen.{Pen}

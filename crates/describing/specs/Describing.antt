@@ -5,7 +5,7 @@ use Prim.Native.Nat.{ℕ, _+_, _≤_, _<_}
 use lib.ListN.{length, getD, set, drop}
 use Rattle.sheet.specs.Entry.{Entry}
 use Rattle.sheet_writer.specs.Writing.{Holding}
-use Rattle.refinement.specs.Refining.{conjoined, conjoint}
+use Rattle.refinement.specs.Comparison.{conjoined, conjoint}
 use Rattle.describing.specs.declared.Pen.{Pen}
 
 -- The room holds the entries, and the pen is behind the last of them.

@@ -4,15 +4,17 @@ use mathlib.Core.Path.{_≡_, sym, ap, _∙_}
 use Prim.Native.Nat.{ℕ, _*_, _^_, _≤_, _<_}
 use native.Mathlib.Nat.{mul-le-mul}
 use native.Mathlib.Omega.{arith}
-use lib.ListN.{length, take}
+use lib.ListN.{length, getD, take}
 use lib.Seq.{length-take-le}
 use Rattle.theory.specs.Rounds.{matched}
 use Rattle.book.specs.Book.{cellsOf}
 use Rattle.book.specs.BookGraph.{graphOf}
 use Rattle.book.specs.Accepted.{book-sizes}
-use Rattle.sheet.specs.Sheet.{lengthOf}
 use Rattle.refinement.specs.Places.{unparted, zeros, among-at}
-use Rattle.compare.specs.Compare.{pairsOf, Leaves, lent, rightAnswer, IsCompare}
+use mir.Syntax.{w8}
+use mir.Val.{Fits}
+use Rattle.compare.specs.Compare.{pairsOf, comparedMap, comparedSheet, Lists, leftBy, lent, rightAnswer, IsCompare}
+use Rattle.compare.specs.Promises.{Given, map-places, zeros-matched}
 use Rattle.compare.specs.Laws.{accepts-compared}
 use Rattle.compare.specs.declared.CompareAnswer.{CompareAnswer}
 use Rattle.compare.specs.declared.CompareAnswer.the-variants.{Compared}
@@ -27,9 +29,9 @@ module _ (l r : List ℕ) (c : ℕ) (g : Listed l r c) where
   pairs-few = mul-le-mul (g .few-left) (g .few-right)
 
   module _ (map room scratch map′ room′ scratch′ : List ℕ) (a : CompareAnswer) (h : length map ≡ pairsOf l r) (f : 65536 ≡ length room) (k : 65536 ≡ length scratch) where
-    served : rightAnswer l r c (lent map room scratch) (lent map′ room′ scratch′) ≡ Compared (lengthOf room′) (zeros map′)
+    served : rightAnswer l r c (lent map room scratch) ≡ Compared (length (comparedSheet l r c)) (zeros (comparedMap l r c))
     served =
-        accepts-compared l r c (length map) (length room) (length scratch) (lengthOf room′) (zeros map′)
+        accepts-compared l r c (length map) (length room) (length scratch) (length (comparedSheet l r c)) (zeros (comparedMap l r c))
         (record {
           bound = g .bounded;
           left = g .left;
@@ -40,9 +42,14 @@ module _ (l r : List ℕ) (c : ℕ) (g : Listed l r c) where
         })
 
     -- the zeros of the map are the matched pairs
-    pub map-filled : IsCompare l r c (lent map room scratch) a (lent map′ room′ scratch′) → MatchMap l r c map′
-    unfolding Leaves
-    map-filled s = let t = (rw served at (s .lists)) .comparison in record { places = t .places; matching = t .matching }
+    pub map-filled : ((i : ℕ) → Fits w8 (getD l i 0)) → ((i : ℕ) → Fits w8 (getD r i 0)) → IsCompare l r c (lent map room scratch) a (lent map′ room′ scratch′)
+        → MatchMap l r c map′
+    unfolding leftBy
+    map-filled bl br s =
+        let books : Given l r c =
+        record { bytes = (record { each = λ i. bl i .fits }, record { each = λ i. br i .fits }); left = g .left; right = g .right; bound = g .bounded } in
+        let e : map′ ≡ comparedMap l r c = ap (λ (x : Lists). x .map) (s .lists ∙ ap (leftBy l r c (lent map room scratch)) served) in
+        rw e (record { places = map-places books; matching = zeros-matched books })
 
   -- ---- the listing of the map
 

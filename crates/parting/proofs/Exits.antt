@@ -21,8 +21,8 @@ use Rattle.search.specs.Reasons.{pathIn}
 use Rattle.search.specs.Laws.{reason-link, reason-same, reason-differ}
 use Rattle.search.specs.declared.Steps.{Steps}
 use Rattle.search.specs.declared.Reason.{Reason}
-use Rattle.refinement.specs.Entries.{stepsAlong, reasonEntry, reasonBytes}
-use Rattle.refinement.specs.Refining.{withDenial, write}
+use Rattle.refinement.specs.Entries.{reasonBytes}
+use Rattle.refinement.specs.Comparison.{withDenial, write, stepsAlong, reasonEntry}
 use Rattle.describing.specs.Describing.{Roomy, Extends, NameFits, Names}
 use Rattle.describing.specs.Laws.{extends-one, extends-more}
 use Rattle.describing.specs.declared.Pen.{Pen}

@@ -15,11 +15,11 @@ use Rattle.theory.specs.Parting.{byLink, byPaths, Fails}
 use Rattle.hops.specs.Hops.{View, viewOf, hopAt}
 use Rattle.classes.specs.Paths.{pathOf}
 use Rattle.search.specs.Reasons.{Posed, pathIn, reasonOf, Numbered, Answered}
-use Rattle.search.specs.Laws.{reason-link, reason-same, reason-differ, steps-length, steps-at}
+use Rattle.search.specs.Laws.{answer-fails, reason-link, reason-same, reason-differ, steps-length, steps-at}
 use Rattle.search.specs.declared.Steps.{Steps}
 use Rattle.search.specs.declared.Reason.{Reason}
-use Rattle.refinement.specs.Entries.{Narrow, reasonEntry}
-use Rattle.refinement.specs.Refining.{State, ahead, back, part}
+use Rattle.refinement.specs.Entries.{Narrow}
+use Rattle.refinement.specs.Comparison.{State, ahead, back, part, reasonEntry}
 use Rattle.parting.specs.Parting.{listed, Passable, Puttable, parted}
 
 -- ---- the starts of the links do not matter to a path
@@ -69,7 +69,7 @@ module _ {l : Graph} (narrow : Narrow l) where
   module _ {r : Graph} {z : Relation} (v u : View) (rows ea eb : List ℕ) (a b c : ℕ) (s : Reason) (w : Answered v u rows ea eb a b c s)
       (d : Posed l r z v u rows ea eb a b) (small : c ≤ 4) (n : s .kind ≡ 0 → ⊥) where
     fails : Fails l r c z a b (reasonOf v s)
-    fails = w .fails l r z d n
+    fails = answer-fails l r z v u rows ea eb a b c s w d n
 
     link-passable : s .kind ≡ 4 → Passable (v .labels) (v .to) (s .first)
     link-passable e =

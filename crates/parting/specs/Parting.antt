@@ -11,8 +11,7 @@ use Rattle.hops.specs.Hops.{viewOf}
 use Rattle.search.specs.Reasons.{pathIn, reasonOf, Numbered}
 use Rattle.search.specs.declared.Steps.{Steps}
 use Rattle.search.specs.declared.Reason.{Reason}
-use Rattle.refinement.specs.Entries.{stepsAlong}
-use Rattle.refinement.specs.Refining.{State, withDenial, write}
+use Rattle.refinement.specs.Comparison.{State, withDenial, write, stepsAlong}
 use Rattle.describing.specs.Describing.{Penned, Roomy, Extends}
 use Rattle.describing.specs.declared.Pen.{Pen}
 use Rattle.parting.specs.declared.Way.{Way}

@@ -11,11 +11,12 @@ use Rattle.theory.specs.Path.{Path, Walk}
 use Rattle.theory.specs.Walks.{linked-inside}
 use Rattle.theory.specs.Bisimulation.{Relation}
 use Rattle.theory.specs.Parting.{Reason, byLink, byPaths, Fails, pathExpr, asked}
-use Rattle.sheet.specs.Entry.{Step, Entry, truth, negation, conjunction, way, comparison, named, spellWay, spell, expressions, expression, tests, numbers, Short, Below, WellFormedEntry, WellFormedFrom, WellFormed as WellFormedEntries}
+use Rattle.sheet.specs.Entry.{Entry, truth, negation, conjunction, named, spellWay, spell, expressions, expression, tests, numbers, Short, Below, WellFormedEntry, WellFormedFrom, WellFormed as WellFormedEntries}
 use Rattle.sheet.specs.Expressions.{below-both, expression-front, expression-is, well-formed-at, well-formed-snoc}
 use Rattle.sheet.specs.Sheet.{mostBound, labelWidth, stepWidth}
 use Rattle.sheet.specs.Encoding.{encode, stepLabels, labels, Labelled}
 use Rattle.sheet.specs.Written.{sizeOf, length-encodeEntry, encode-snoc, labelled-snoc}
+use Rattle.refinement.specs.Comparison.{stepsAlong, reasonEntry}
 
 -- ---- one entry more
 
@@ -84,21 +85,11 @@ unfolding Short numbers Below labels
 fit-conjunction h k =
     record { formed = record { first = λ e. absurd (omega arith); short = tt; earlier = (h, (k, tt)) }; labelled = tt }
 
--- ---- the entry that puts a reason
+-- ---- the entry that puts a reason (`reasonEntry`)
 
 -- Every label of the graph has room in the bytes of a step.
 pub record Narrow (g : Graph) : Type 0 where
   pub label : (x a y : ℕ) → linked g x a y ≡ true → a < 256 ^ labelWidth
-
--- The steps along a path: at each node the test is the entry that xs gives for it.
-unfoldable pub stepsAlong : List ℕ → Path → List Step
-stepsAlong xs [] = []
-stepsAlong xs (h ∷ p) = record { label = h .label; test = getD xs (h .to) 0 } ∷ stepsAlong xs p
-
--- The entry that puts a reason.
-unfoldable pub reasonEntry : List ℕ → Reason → Entry
-reasonEntry xs (byLink h) = way (stepsAlong xs (h ∷ []))
-reasonEntry xs (byPaths t p q) = comparison t (stepsAlong xs p) (stepsAlong xs q)
 
 -- The most bytes that it takes: a same or differ of two ways of as many steps as the largest bound (28).
 abbrev pub reasonBytes : ℕ

@@ -16,7 +16,8 @@ use Rattle.sheet.specs.Sheet.{mostBound}
 use Rattle.sheet.specs.Encoding.{encode}
 use Rattle.refinement.specs.Places.{unpartedBefore, among, nonzeros}
 use Rattle.refinement.specs.Entries.{Narrow}
-use Rattle.refinement.specs.Refining.{State, Cause, Caused, conjoined, conjoint, part, turned, pairEntries, pairBytes, Refined, Compared}
+use Rattle.refinement.specs.Comparison.{State, Cause, owed, verdict, conjoined, conjoint, part, turned}
+use Rattle.refinement.specs.Refining.{Caused, pairEntries, pairBytes, Refined, Compared}
 use Rattle.refinement.specs.Steps.{stays-refined, shares-refined, nonzero-refined, zero-related, zero-spare, began-is}
 use Rattle.refinement.specs.Writing.{part-refined}
 use Rattle.refinement.specs.Comparing.{turned-refined, still-compared, last-compared}
@@ -111,11 +112,11 @@ module _ {l r : Graph} {c k start : ℕ} {now : State} (a b n m p : ℕ) (z : Re
 
   -- the place holds 0, and the search found a cause
   pub part-exit : (v : ℕ) (why : Cause) (next : State) → Narrow l → Narrow r → c ≤ mostBound → v ≡ getD (now .map) p 0 → v ≡ 0
-      → Caused l r c z a b why → next ≡ part m a b why now → Refined twoSided l r c k start (p + 1) next
-  part-exit v why next nl nr small e h f q =
+      → Caused l r c z a b why → verdict twoSided l r c z a b ≡ owed why → next ≡ part m a b why now → Refined twoSided l r c k start (p + 1) next
+  part-exit v why next nl nr small e h f d q =
       let inv′ = refined-at-place a b n m p wl wr left right place o u inv in
       rw (add-one, place, q, right) (part-refined wl wr inv′ (omega arith) (omega arith)
-      (zero-exit a b n m p wl wr left right place o u inv v e h) nl nr small why (rw began at f))
+      (zero-exit a b n m p wl wr left right place o u inv v e h) nl nr small why (rw began at f) (rw began at d))
 
 -- ---- the rounds
 

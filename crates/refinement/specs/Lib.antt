@@ -1,8 +1,10 @@
 pub mod Places
+pub mod Comparison
 pub mod Entries
 pub mod Refining
 pub mod Steps
 pub mod Writing
 pub mod Comparing
+pub mod Defined
 pub mod Exits
 pub mod Theorems

@@ -1,7 +1,6 @@
--- The comparison as it is computed, on entries and numbers: the state, the step for a pair that is parted, what holds between the steps, and what is
--- promised in the end.
+-- The comparison as it is computed, on entries and numbers: what holds between the steps, and what is promised in the end.
 use mathlib.Core.Bool.{true, false, So}
-use mathlib.Core.List.{List, [], _∷_, _++_}
+use mathlib.Core.List.{List, [], _∷_}
 use mathlib.Core.Logic.{_↔_, _≢_}
 use mathlib.Core.Path.{_≡_}
 use Prim.Native.Nat.{ℕ, zero, suc, _+_, _*_, _<_, _≤_}
@@ -12,23 +11,15 @@ use Rattle.theory.specs.Meaning.{holds}
 use Rattle.theory.specs.Bound.{Within, depth}
 use Rattle.theory.specs.Bisimulation.{Relation, flip, Sides, twoSided, Spoken}
 use Rattle.theory.specs.Rounds.{related, after, settled}
-use Rattle.theory.specs.Parting.{Parts, Describes, Described, Reason, Fails}
-use Rattle.sheet.specs.Entry.{Entry, truth, negation, conjunction, expression}
+use Rattle.theory.specs.Parting.{Parts, Describes, Described, Fails}
+use Rattle.theory.specs.Choosing.{Symmetric}
+use Rattle.sheet.specs.Entry.{Entry, truth, expression}
 use Rattle.sheet.specs.Encoding.{encode}
 use Rattle.refinement.specs.Places.{placed, unparted, unpartedBefore, nonzeros}
-use Rattle.refinement.specs.Entries.{Sheet, Grows, reasonEntry}
+use Rattle.refinement.specs.Comparison.{State, begin, Cause, ahead, back, upto, states, comparison}
+use Rattle.refinement.specs.Entries.{Sheet, Grows}
 
--- ---- the state and its steps
-
--- The entries so far; the map, 0 where a pair is not parted; and for each node of each graph the number of the entry that describes it, as the round
--- found it and as it has become.
-pub record State : Type 0 where
-  pub entries : List Entry
-  pub map : List ℕ
-  pub oldLeft : List ℕ
-  pub oldRight : List ℕ
-  pub newLeft : List ℕ
-  pub newRight : List ℕ
+-- ---- how it begins, and why a pair is parted
 
 -- n numbers or more, of which the first n are 0.
 pub record Blank (n : ℕ) (xs : List ℕ) : Type 0 where
@@ -43,61 +34,12 @@ pub record Begun (l r : Graph) (now : State) : Type 0 where
   pub oldRight : Blank (r .size) (now .oldRight)
   pub newLeft : Blank (l .size) (now .newLeft)
   pub newRight : Blank (r .size) (now .newRight)
-
--- Why a pair is parted: what the left node has and the right one lacks, or the other way round.
-pub data Cause : Type 0 where
-  ahead back : Reason → Cause
+  pub is : now ≡ begin l r
 
 -- The pair owes what the cause says, under the relation z.
 abbrev pub Caused : Graph → Graph → ℕ → Relation → ℕ → ℕ → Cause → Type 0
 Caused l r c z a b (ahead why) = Fails l r c z a b why
 Caused l r c z a b (back why) = Fails r l c (flip z) b a why
-
--- The entries after e and its denial were written.
-unfoldable pub withDenial : List Entry → Entry → List Entry
-withDenial es e = (es ++ (e ∷ [])) ++ (negation (length es) ∷ [])
-
--- The entries after "i and j" was written. Where i is 0, always true, nothing is written and j serves.
-unfoldable pub conjoined : List Entry → ℕ → ℕ → List Entry
-conjoined es zero j = es
-conjoined es (suc i) j = es ++ (conjunction (suc i) j ∷ [])
-
--- The number of "i and j" there.
-unfoldable pub conjoint : List Entry → ℕ → ℕ → ℕ
-conjoint es zero j = j
-conjoint es (suc i) j = length es
-
--- Write the entry e and its denial, of which i is true at the left node a and j at the right node b; add i to what describes a and j to what describes b;
--- and name i in the map.
-unfoldable pub write : ℕ → ℕ → ℕ → Entry → ℕ → ℕ → State → State
-write m a b e i j now =
-    let es = withDenial (now .entries) e in
-    let es′ = conjoined es (getD (now .newLeft) a 0) i in
-    record {
-      entries = conjoined es′ (getD (now .newRight) b 0) j;
-      map = set (now .map) (a * m + b) i;
-      oldLeft = now .oldLeft;
-      oldRight = now .oldRight;
-      newLeft = set (now .newLeft) a (conjoint es (getD (now .newLeft) a 0) i);
-      newRight = set (now .newRight) b (conjoint es′ (getD (now .newRight) b 0) j);
-    }
-
--- The step for a pair that is parted: the entry tests the nodes on its ways by what described them as the round began.
-unfoldable pub part : ℕ → ℕ → ℕ → Cause → State → State
-part m a b (ahead why) now = write m a b (reasonEntry (now .oldLeft) why) (length (now .entries)) (suc (length (now .entries))) now
-part m a b (back why) now = write m a b (reasonEntry (now .oldRight) why) (suc (length (now .entries))) (length (now .entries)) now
-
--- The state at the next round's start: what describes a node is what it has become.
-unfoldable pub turned : State → State
-turned now =
-    record {
-      entries = now .entries;
-      map = now .map;
-      oldLeft = now .newLeft;
-      oldRight = now .newRight;
-      newLeft = now .newLeft;
-      newRight = now .newRight;
-    }
 
 -- ---- what holds between the steps
 
@@ -124,6 +66,9 @@ pub record Named (s : Sides) (l r : Graph) (c : ℕ) (es : List Entry) (a b i : 
 
 -- The invariant: what holds in round k + 1, before place p. `start` is the number of entries that the round began with.
 pub record Refined (s : Sides) (l r : Graph) (c k start p : ℕ) (now : State) : Type 0 where
+  -- the state is the one that the definition has there
+  pub is : now ≡ upto s l r c (after s l r c k) p (states s l r c k)
+  pub symmetric : Symmetric l × Symmetric r
   pub sheet : Sheet c (now .entries)
   pub few : length (now .entries) ≤ 1 + pairEntries * nonzeros (now .map)
   pub room : length (encode (now .entries)) ≤ 2 + pairBytes * nonzeros (now .map)
@@ -170,6 +115,8 @@ pub record Written (s : Sides) (l r : Graph) (c k a b : ℕ) (now next : State) 
 -- The zeros of the map are the matched pairs. Every other number names an expression that parts its pair, no deeper than n × m, and than which no
 -- shallower one does.
 pub record Compared (s : Sides) (l r : Graph) (c : ℕ) (es : List Entry) (map : List ℕ) : Type 0 where
+  pub entries : es ≡ comparison s l r c .entries
+  pub places : map ≡ comparison s l r c .map
   pub sheet : Sheet c es
   pub few : length es ≤ 1 + pairEntries * nonzeros map
   pub room : length (encode es) ≤ 2 + pairBytes * nonzeros map

@@ -1,27 +1,29 @@
 -- The steps keep the invariant: a pair that stays, and a pair that is parted.
-use mathlib.Core.Bool.{So}
+use mathlib.Core.Bool.{Bool, true, false, So}
 use mathlib.Core.List.{List}
 use mathlib.Core.Logic.{_⊎_, inl, inr, ⊎-elim, _≢_}
-use mathlib.Core.Path.{_≡_, sym, _∙_}
-use Prim.Native.Nat.{ℕ, suc, _+_, _*_, _<_, _≤_}
+use mathlib.Core.Path.{_≡_, refl, sym, ap, _∙_}
+use Prim.Native.Nat.{ℕ, suc, _+_, _*_, _/_, _%_, _<_, _≤_}
 use native.Mathlib.Omega.{arith}
-use native.Mathlib.Nat.{eq-or-lt-of-le, le-of-suc-le-suc, le-refl}
+use native.Mathlib.Nat.{eq-or-lt-of-le, le-of-suc-le-suc, le-refl, div-add-mod', mod-lt}
 use lib.ListN.{length, getD, set, length-set}
 use lib.Seq.{getD-set-same, getD-set-other}
 use borrow.Author.Tests.{eqb-true, eq-eqb, ne-eqb, le-leb}
 use Rattle.theory.specs.Expression.{NodeExpr}
 use Rattle.theory.specs.Graph.{Graph, WellFormed}
-use Rattle.theory.specs.Bisimulation.{Relation, Sides, twoSided}
-use Rattle.theory.specs.Rounds.{zigs, zags, after}
-use Rattle.theory.specs.Tests.{facts, test-eq}
-use Rattle.theory.specs.Greatest.{descends}
-use Rattle.theory.specs.Parting.{Describes}
+use Rattle.theory.specs.Bisimulation.{Relation, flip, Sides, oneSided, twoSided}
+use Rattle.theory.specs.Rounds.{zigs, zags, round, rounds, after}
+use Rattle.theory.specs.Tests.{facts, and-iff, test-eq}
+use Rattle.theory.specs.Greatest.{related-iff, descends}
+use Rattle.theory.specs.Choosing.{none, some, Symmetric, chosen, chosen-none}
+use Rattle.theory.specs.Parting.{Reason, Describes}
 use Rattle.theory.specs.Describing.{stays, parts-drop, after-ext}
 use Rattle.theory.specs.Rows.{across}
 use Rattle.sheet.specs.Entry.{Entry}
 use Rattle.refinement.specs.Places.{placed, unparted, unpartedBefore, among, nonzeros, nonzeros-set, nonzeros-most, eq-or-ne, place-below, place-row, place-column, placed-set, placed-other, among-inside, among-at}
 use Rattle.refinement.specs.Entries.{Grows}
-use Rattle.refinement.specs.Refining.{State, DescribedBy, Named, Refined, Redescribed, Written}
+use Rattle.refinement.specs.Comparison.{State, ahead, back, unowed, owed, verdictOf, backward, verdict, obey, settle, upto, states}
+use Rattle.refinement.specs.Refining.{DescribedBy, Named, Refined, Redescribed, Written}
 
 -- ---- more entries, a larger depth, a larger relation
 
@@ -80,6 +82,56 @@ described-set {l = l} {a = a} {xs = xs} {xs′ = xs′} g n f t =
     other : (x : ℕ) → x ≢ a → getD xs′ x 0 ≡ getD xs x 0
     other x e = rw (n .is) (getD-set-other xs a x (n .entry) 0 e)
 
+-- ---- the step, as it is defined
+
+-- the pair at a place
+module _ (m a b : ℕ) (h : b < m) where
+  place-over : (a * m + b) / m ≡ a
+  place-over = place-row m ((a * m + b) / m) ((a * m + b) % m) a b (mod-lt (a * m + b) (omega arith)) h (div-add-mod' (a * m + b) m)
+
+  place-under : (a * m + b) % m ≡ b
+  place-under = place-column m ((a * m + b) / m) ((a * m + b) % m) a b (mod-lt (a * m + b) (omega arith)) h (div-add-mod' (a * m + b) m)
+
+-- what is chosen from either side decides
+module _ (l r : Graph) (c : ℕ) (z : Relation) (a b : ℕ) (why : Reason) where
+  pub verdict-left : (s : Sides) → chosen l r c z a b ≡ some why → verdict s l r c z a b ≡ owed (ahead why)
+  unfolding verdict verdictOf
+  verdict-left s e = rw e
+
+  pub verdict-right : chosen l r c z a b ≡ none → chosen r l c (flip z) b a ≡ some why → verdict twoSided l r c z a b ≡ owed (back why)
+  unfolding verdict verdictOf backward
+  verdict-right e f = rw (e, f)
+
+-- a pair that owes nothing stays
+pub verdict-stays : (s : Sides) (l r : Graph) (c : ℕ) (z : Relation) (a b : ℕ) → Symmetric l × Symmetric r → So (zigs l r c z a b) → So (zags s l r c z a b)
+    → verdict s l r c z a b ≡ unowed
+unfolding verdict verdictOf
+verdict-stays s l r c z a b (el, er) h h′ = rw (chosen-none l r z a b c el er .1 h) (ap (verdictOf none) (back s h′))
+  where
+    back : (s : Sides) → So (zags s l r c z a b) → backward s l r c z a b ≡ none
+    back oneSided h = unfold backward in refl
+    back twoSided h = unfold backward in unfold zags in chosen-none r l (flip z) b a c er el .1 h
+
+-- a pair that a round relates owes nothing under the relation before
+pub kept-clauses : (s : Sides) (l r : Graph) (c k a b : ℕ) → So (after s l r c (suc k) a b)
+    → So (after s l r c k a b) × So (zigs l r c (after s l r c k) a b) × So (zags s l r c (after s l r c k) a b)
+unfolding rounds round
+kept-clauses s l r c k a b e =
+    let (_, _, h) = related-iff _ _ _ a b .0 e in
+    let (p, q) = and-iff _ _ .0 h in
+    let (t, u) = and-iff _ _ .0 q in
+    (p, t, u)
+
+-- so nothing is done
+pub settle-stays : (s : Sides) (l r : Graph) (c : ℕ) (z : Relation) (a b : ℕ) (now : State) → Symmetric l × Symmetric r
+    → (So (z a b) → So (zigs l r c z a b) × So (zags s l r c z a b)) → settle s l r c z a b now ≡ now
+unfolding settle obey
+settle-stays s l r c z a b now symmetric f = by (z a b) refl
+  where
+    by : (e : Bool) → z a b ≡ e → settle s l r c z a b now ≡ now
+    by true e = let (h, h′) = f e in rw (e, verdict-stays s l r c z a b symmetric h h′)
+    by false e = rw e
+
 -- ---- one pair
 
 module _ {s : Sides} {l r : Graph} {c k start a b : ℕ} {now : State} (wl : WellFormed l) (wr : WellFormed r)
@@ -88,10 +140,19 @@ module _ {s : Sides} {l r : Graph} {c k start a b : ℕ} {now : State} (wl : Wel
   before-next : (x y : ℕ) → y < r .size → x * r .size + y < suc (a * r .size + b) → ((x ≡ a) × (y ≡ b)) ⊎ (x * r .size + y < a * r .size + b)
   before-next x y v h = ⊎-elim (λ e. inl (place-row _ x y a b v u e, place-column _ x y a b v u e)) inr (eq-or-lt-of-le (le-of-suc-le-suc h))
 
+  -- the state that the definition has next
+  next-is : (next : State) → settle s l r c (after s l r c k) a b now ≡ next
+      → next ≡ upto s l r c (after s l r c k) (suc (a * r .size + b)) (states s l r c k)
+  unfolding upto
+  next-is next q = rw (place-over (r .size) a b u, place-under (r .size) a b u) (sym q ∙ ap (settle s l r c (after s l r c k) a b) (inv .is))
+
   -- a place that is as round k + 1 leaves it
-  still-refined : unparted (r .size) (now .map) a b ≡ after s l r c (suc k) a b → Refined s l r c k start (suc (a * r .size + b)) now
-  still-refined here =
+  still-refined : unparted (r .size) (now .map) a b ≡ after s l r c (suc k) a b → settle s l r c (after s l r c k) a b now ≡ now
+      → Refined s l r c k start (suc (a * r .size + b)) now
+  still-refined here q =
       record {
+        is = next-is now q;
+        symmetric = inv .symmetric;
         sheet = inv .sheet;
         few = inv .few;
         room = inv .room;
@@ -113,10 +174,12 @@ module _ {s : Sides} {l r : Graph} {c k start a b : ℕ} {now : State} (wl : Wel
   stays-refined f =
       still-refined (inv .waiting a b o u (le-refl _)
       ∙ test-eq _ _ (λ e. let t = f e in stays s c wl wr k a b e (t .0) (t .1)) (descends s c wl wr k a b))
+      (settle-stays s l r c (after s l r c k) a b now (inv .symmetric) f)
 
   -- a pair that round k + 1 relates
   related-refined : So (after s l r c (suc k) a b) → Refined s l r c k start (suc (a * r .size + b)) now
   related-refined e = still-refined (inv .waiting a b o u (le-refl _) ∙ descends s c wl wr k a b e ∙ sym e)
+      (settle-stays s l r c (after s l r c k) a b now (inv .symmetric) (λ _. let (_, h, h′) = kept-clauses s l r c k a b e in (h, h′)))
 
   -- a place that holds a number: its pair was parted before
   pub nonzero-refined : placed (r .size) (now .map) a b ≢ 0 → Refined s l r c k start (suc (a * r .size + b)) now
@@ -153,9 +216,11 @@ module _ {s : Sides} {l r : Graph} {c k start a b : ℕ} {now : State} (wl : Wel
     this-or-other x y v = ⊎-elim (λ q. inl (place-row _ x y a b v u q, place-column _ x y a b v u q)) inr (eq-or-ne (x * r .size + y) (a * r .size + b))
 
     -- a pair that is parted, however that is written
-    pub written-refined : Refined s l r c k start (suc (a * r .size + b)) next
-    written-refined =
+    pub written-refined : settle s l r c (after s l r c k) a b now ≡ next → Refined s l r c k start (suc (a * r .size + b)) next
+    written-refined q =
         record {
+          is = next-is next q;
+          symmetric = inv .symmetric;
           sheet = t .sheet;
           few = omega (arith, nonzeros-more, inv .few, t .few);
           room = omega (arith, nonzeros-more, inv .room, t .room);

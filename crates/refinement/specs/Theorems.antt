@@ -47,6 +47,11 @@ module _ {s : Sides} {l r : Graph} {c : ℕ} {es : List Entry} {map : List ℕ} 
     pub zero-keeps : (placed (r .size) map a b ≡ 0) ↔ ((q : NodeExpr) → Within c q → Spoken s q → holds l q a ≡ true → holds r q b ≡ true)
     zero-keeps = Iff·trans (t .zeros a b o u) (keep-iff s c wl wr a b o u)
 
+-- Entries and map are a function of the two graphs and the bound: whatever else two runs were given, they leave the same.
+pub compared-same : {s : Sides} {l r : Graph} {c : ℕ} {es es′ : List Entry} {map map′ : List ℕ} → Compared s l r c es map → Compared s l r c es′ map′
+    → (es ≡ es′) × (map ≡ map′)
+compared-same t t′ = (t .entries ∙ sym (t′ .entries), t .places ∙ sym (t′ .places))
+
 -- two tests are equal where the first makes the second pass, and its failure makes the second fail
 test-eq-not : (x y : Bool) → (So x → So y) → (So (not x) → So (not y)) → x ≡ y
 test-eq-not true y f g = sym (f refl)

@@ -19,8 +19,9 @@ use Rattle.sheet.specs.Sheet.{mostBound}
 use Rattle.sheet.specs.Encoding.{encode}
 use Rattle.sheet.specs.Written.{sizeOf}
 use Rattle.refinement.specs.Places.{unparted, eq-or-ne, place-row, place-column, placed-other}
-use Rattle.refinement.specs.Entries.{Sheet, Fit, Grows, Narrow, grows-refl, grows-append, grows-trans, sheet-snoc, expression-zero, length-snoc, length-encode-snoc, fit-negation, fit-conjunction, reasonEntry, reasonBytes, spell-reasonEntry, size-reasonEntry, fit-reasonEntry}
-use Rattle.refinement.specs.Refining.{State, Cause, ahead, back, Caused, withDenial, conjoined, conjoint, write, part, DescribedBy, Redescribed, Refined}
+use Rattle.refinement.specs.Entries.{Sheet, Fit, Grows, Narrow, grows-refl, grows-append, grows-trans, sheet-snoc, expression-zero, length-snoc, length-encode-snoc, fit-negation, fit-conjunction, reasonBytes, spell-reasonEntry, size-reasonEntry, fit-reasonEntry}
+use Rattle.refinement.specs.Comparison.{State, Cause, ahead, back, withDenial, conjoined, conjoint, write, part, owed, verdict, obey, settle, reasonEntry}
+use Rattle.refinement.specs.Refining.{Caused, DescribedBy, Redescribed, Refined}
 use Rattle.refinement.specs.Steps.{describes-more, described-more, redescribed-more, written-refined}
 
 -- ---- "i and j"
@@ -141,9 +142,10 @@ module _ {l r : Graph} {c k start a b : ℕ} {now : State} (wl : WellFormed l) (
       → i < length (now .entries) + 2 → j < length (now .entries) + 2
       → Parts twoSided l r c (suc k) a b (expression (withDenial (now .entries) d) i)
       → Parts twoSided r l c (suc k) b a (expression (withDenial (now .entries) d) j)
+      → settle twoSided l r c (after twoSided l r c k) a b now ≡ write (r .size) a b d i j now
       → Refined twoSided l r c k start (suc (a * r .size + b)) (write (r .size) a b d i j now)
   unfolding write
-  write-refined d i j t g fresh h h′ p p′ =
+  write-refined d i j t g fresh h h′ p p′ q =
       written-refined wl wr inv o u {i = i} e (record {
         sheet = jr .sheet;
         grows = grows-trans (t .grows) (grows-trans (jl .grows) (jr .grows));
@@ -157,7 +159,7 @@ module _ {l r : Graph} {c k start a b : ℕ} {now : State} (wl : WellFormed l) (
         oldRight = refl;
         newLeft = redescribed-more (jr .grows) (jl .here (now .newLeft));
         newRight = λ _. jr .here (now .newRight);
-      })
+      }) q
     where
       es : List Entry
       es = withDenial (now .entries) d
@@ -189,15 +191,15 @@ module _ {l r : Graph} {c k start a b : ℕ} {now : State} (wl : WellFormed l) (
 
   -- the step for a pair that is parted keeps the invariant
   pub part-refined : Narrow l → Narrow r → c ≤ mostBound → (why : Cause) → Caused l r c (after twoSided l r c k) a b why
-      → Refined twoSided l r c k start (suc (a * r .size + b)) (part (r .size) a b why now)
-  unfolding part
-  part-refined nl nr small (ahead why) f =
+      → verdict twoSided l r c (after twoSided l r c k) a b ≡ owed why → Refined twoSided l r c k start (suc (a * r .size + b)) (part (r .size) a b why now)
+  unfolding part settle obey
+  part-refined nl nr small (ahead why) f v =
       let n = length (now .entries) in
       let t = reasonEntry-puts wl nl small o (inv .sheet) (inv .oldLeft) why f in
       let d = withDenial-denied (reasonEntry (now .oldLeft) why) (inv .sheet) (t .fit) in
-      write-refined _ n (suc n) d (t .size) (omega arith) (omega arith) (omega arith) (rw (d .first) (t .parts)) (rw (d .second) (part-back refl (t .parts)))
-  part-refined nl nr small (back why) f =
+      write-refined _ n (suc n) d (t .size) (omega arith) (omega arith) (omega arith) (rw (d .first) (t .parts)) (rw (d .second) (part-back refl (t .parts))) (rw (e, v))
+  part-refined nl nr small (back why) f v =
       let n = length (now .entries) in
       let t = reasonEntry-puts wr nr small u (inv .sheet) (inv .oldRight refl) why f in
       let d = withDenial-denied (reasonEntry (now .oldRight) why) (inv .sheet) (t .fit) in
-      write-refined _ (suc n) n d (t .size) (omega arith) (omega arith) (omega arith) (rw (d .second) (part-back refl (t .parts))) (rw (d .first) (t .parts))
+      write-refined _ (suc n) n d (t .size) (omega arith) (omega arith) (omega arith) (rw (d .second) (part-back refl (t .parts))) (rw (d .first) (t .parts)) (rw (e, v))

@@ -13,7 +13,8 @@ use Rattle.words.specs.Laws.{bit-wordOf-lt}
 use Rattle.edges.specs.Laws.{rows-at}
 use Rattle.answers.specs.Row.{zeroFrom, rowWord}
 use Rattle.refinement.specs.Places.{unparted, zeros, zeros-nonzeros}
-use Rattle.refinement.specs.Refining.{State, Refined}
+use Rattle.refinement.specs.Comparison.{State}
+use Rattle.refinement.specs.Refining.{Refined}
 use Rattle.relation.specs.Relation.{Mapped, rowsOf, columnOf, columnsOf, Tells}
 
 -- the rows of a map tell the pairs that it has not parted

@@ -1,144 +1,73 @@
--- The loops over the parts one link beyond a table: what each turn and each way out shows. Assumes nothing.
+-- The loops over the parts one link beyond a table, and over the links out of a node: what each turn and each way out shows. Assumes nothing.
 use mathlib.Core.Bool.{Bool, true, false, cond}
-use mathlib.Core.Path.{_≡_, refl, sym, ap, _∙_}
+use mathlib.Core.Path.{_≡_, refl, sym, _∙_}
 use mathlib.Core.Logic.{⊎-elim}
 use mathlib.Core.List.{List, [], _∷_}
 use Prim.Native.Nat.{ℕ, _+_, _-_, _*_, _^_, _≤_, _<_}
-use native.Mathlib.Nat.{pos-of-ne-zero}
+use native.Mathlib.Nat.{pos-of-ne-zero, eq-or-lt-of-le}
 use native.Mathlib.Omega.{arith}
-use lib.ListN.{length, getD, set}
+use lib.ListN.{length, getD, set, length-set}
 use Rattle.theory.specs.Tests.{never, le-or-lt}
 use Rattle.words.specs.Words.{Inside}
-use Rattle.hops.specs.Hops.{View, labelOf, toOf, Opened}
+use Rattle.hops.specs.Hops.{View, startOf, labelOf, toOf, Opened}
 use Rattle.classes.specs.declared.Part.{Part}
-use Rattle.classes.specs.declared.Origin.{Origin}
-use Rattle.classes.specs.Paths.{Trail, endOf, stepWord, endsOver}
+use Rattle.classes.specs.Paths.{Leaves, Trail, endOf, stepWord, endsOver}
 use Rattle.tables.specs.Tips.{Has}
 use Rattle.tables.specs.Laws.{inside-refl, one-has, one-only}
-use Rattle.classes.specs.Tables.{Beyond, Named, Moves, slot, Filled, Comes}
-use Rattle.classes.specs.Laws.{leaves-below, over-inside}
+use Rattle.classes.specs.Tables.{Named, Moves, slot, Filled}
+use Rattle.classes.specs.Laws.{leaves-below, leaves-low, over-inside}
 use Rattle.routes.specs.declared.Route.{Route}
 use Rattle.routes.specs.declared.Tail.{Tail}
-use Rattle.routes.specs.declared.Found.{Found}
 use Rattle.routes.specs.declared.Pair.{Pair}
-use Rattle.routes.specs.Pairs.{fault, alone, failure, linksIn, Shaped, Sought}
+use Rattle.routes.specs.Pairs.{fault, alone, failure, linksIn, Before, Sought}
 use Rattle.routes.specs.Laws.{fault-inside}
-use Rattle.routes.specs.Tails.{Prepended, Standing, Met, Runs, Tailed, faultOf, exchange, Searched}
+use Rattle.routes.specs.Tails.{noLinks, Prepended, Met, faultOf, Hit, Safe, Hitting, Searched, Ahead, Barren, Told, Next, Foremost}
 
--- What holds of a tip holds of each tip that it covers.
-abbrev Passes : (ℕ → ℕ → Type 0) → Type 0
-Passes P = (x w w′ : ℕ) → Inside w w′ → P x w → P x w′
+empty : (p : List ℕ) → length p ≡ 0 → p ≡ []
+empty [] e = refl
+empty (k ∷ p) e = absurd (omega arith)
 
--- P holds of the tip of every path of d links from a tip of the table.
-pub record Clears (v u : View) (z ls rs : List ℕ) (n d : ℕ) (P : ℕ → ℕ → Type 0) : Type 0 where
-  pub each : (x w : ℕ) (s : List ℕ) → Runs v ls rs n d x w s → P (endOf v x s) (endsOver v u z w s)
+-- ---- the links out of a node
+pub start-few : (starts to : List ℕ) (x k : ℕ) → Opened starts to → x < 64 → k ≡ getD starts x 0 → k ≤ 512
+start-few starts to x k o l d = omega (arith, o .few, o .within x (omega arith))
 
--- P holds of the tip of every path of d + 1 links whose first is by a class and a label before a place.
-pub record Below (v u : View) (z labels : List ℕ) (many : ℕ) (ls rs : List ℕ) (n at d : ℕ) (P : ℕ → ℕ → Type 0) : Type 0 where
-  pub each : (e i x k : ℕ) (s : List ℕ) → Moves v labels many ls n e i x k → slot e i < at → Trail v (toOf v k) s → length s ≡ d
-      → P (endOf v (toOf v k) s) (endsOver v u z (stepWord u z (getD rs e 0) (labelOf v k) (toOf v k)) s)
+pub link-low : (starts to : List ℕ) (x k e : ℕ) → Opened starts to → x < 64 → e ≡ getD starts (x + 1) 0 → k + 1 < e → getD to k 0 < 64
+link-low starts to x k e o l d m = o .low k (omega (arith, o .within (x + 1) (omega arith)))
 
-module _ (v u : View) (z labels : List ℕ) (many : ℕ) (ls rs : List ℕ) (n d : ℕ) (P : ℕ → ℕ → Type 0) where
-  below-start : Below v u z labels many ls rs n 0 d P
-  below-start = record { each = λ e i x k s m l. absurd (omega arith) }
-
-  module _ (at : ℕ) (b : Below v u z labels many ls rs n at d P) where
-    below-next : Passes P → (ls₀ rs₀ ls′ rs′ : List ℕ) (p : Part) → Filled v u z labels many ls rs n at ls₀ rs₀ 0 ls′ rs′ p
-        → Clears v u z ls′ rs′ (p .count) d P → Below v u z labels many ls rs n (p .next) d P
-    below-next on ls₀ rs₀ ls′ rs′ p f c = record {
-      each = λ e i x k s m l t h. ⊎-elim
-          (λ o.
-          let g = f .whole e i x k m o l in
-          on _ _ _ (over-inside v u z s _ _ (g .inside)) (c .each _ _ s (record { has = g .has; trail = t; long = h })))
-          (λ o. b .each e i x k s m o t h)
-          (le-or-lt at (slot e i));
-    }
-
-    below-end : Opened (v .starts) (v .to) → Named (v .starts) (v .labels) labels many → n ≤ 128 → 128 * many ≤ at
-        → (rest : ℕ) → rest - 1 ≡ d → (rest ≡ 0 → ⊥) → Clears v u z ls rs n rest P
-    unfolding Trail endOf endsOver
-    below-end o names few l rest e pos = record { each = λ x w s h. go x w s (h .has) (h .trail) (h .long) }
-      where
-        go : (x w : ℕ) (s : List ℕ) → Has ls rs n x w → Trail v x s → length s ≡ rest → P (endOf v x s) (endsOver v u z w s)
-        go x w [] h t q = absurd (pos (sym q))
-        go x w (k ∷ s) h (t, r) q =
-            let (i, a, c) = names .each k (leaves-below v o x k (h .cell) t) in
-            let m : Moves v labels many ls n (h .class) i x k = record { class = h .below; label = a; cell = h .cell; inside = h .inside; leaves = t; named = sym c } in
-            rw (← h .word) (b .each (h .class) i x k s m (omega (arith, h .below)) r (omega arith))
-
--- ---- a path from a part
-module _ (v u : View) (z labels : List ℕ) (many : ℕ) (ls rs : List ℕ) (n at : ℕ) (ls₀ rs₀ ls′ rs′ : List ℕ) (p : Part)
-    (f : Filled v u z labels many ls rs n at ls₀ rs₀ 0 ls′ rs′ p)
-    (rest : ℕ) (t : Tail) (h : Tailed v ls′ rs′ (p .count) (rest - 1) t) where
-  pub tail-low : t .cell < 64
-  tail-low = h .runs .has .cell
-
-  pub tail-beyond : Beyond v u z ls rs n (t .cell) (t .word)
-  tail-beyond = ⊎-elim (λ i. absurd (omega (arith, i .below))) (λ b. b) (f .sound _ _ (h .runs .has))
-
-  pub tail-short : rest ≤ 4 → (rest ≡ 0 → ⊥) → t .path .len < 4
-  tail-short l pos = omega (arith, h .shaped .long, pos-of-ne-zero pos)
-
--- ---- a path with a link before it is one from the table, and has the same tip
-record Grown (v u : View) (z ls rs : List ℕ) (n d : ℕ) (t r : Tail) : Type 0 where
-  tailed : Tailed v ls rs n d r
-  end : endOf v (r .cell) (linksIn (r .path)) ≡ endOf v (t .cell) (linksIn (t .path))
-  word : endsOver v u z (r .word) (linksIn (r .path)) ≡ endsOver v u z (t .word) (linksIn (t .path))
-
-prepended : (v u : View) (z ls′ rs′ : List ℕ) (n′ : ℕ) (ls rs : List ℕ) (n rest : ℕ) → (rest ≡ 0 → ⊥) → (t : Tail) → Tailed v ls′ rs′ n′ (rest - 1) t
-    → (s : Origin) → Comes v u z ls rs n (t .cell) (t .word) s → (r : Tail) → Prepended s t r → Grown v u z ls rs n rest t r
-unfolding Trail endOf endsOver
-prepended v u z ls′ rs′ n′ ls rs n rest pos t g s c r b = record {
-  tailed = record {
-    shaped = record { long = omega (arith, b .long, g .shaped .long, pos-of-ne-zero pos); room = b .room };
-    runs = rw (b .cell, b .word, links) (record {
-      has = c .has;
-      trail = (c .leads .leaves, rw (c .leads .to) (g .runs .trail));
-      long = omega (arith, g .runs .long, pos-of-ne-zero pos);
-    });
-  };
-  end = rw (b .cell, links) (ap (λ (x : ℕ). endOf v x (linksIn (t .path))) (c .leads .to));
-  word = rw (b .word, links)
-      (ap (λ (y : ℕ). endsOver v u z (stepWord u z (s .word) (labelOf v (s .link)) y) (linksIn (t .path))) (c .leads .to)
-      ∙ ap (λ (w : ℕ). endsOver v u z w (linksIn (t .path))) (c .leads .word));
-}
-  where
-    links : linksIn (r .path) ≡ s .link ∷ linksIn (t .path)
-    links = b .path (g .shaped .room)
-
--- ---- two paths
+-- ---- two tables
 -- paths without links are tips; those of two tables, turned
-pub tips-searched : (v u : View) (z ea eb pl pr : List ℕ) (pn : ℕ) (ql qr : List ℕ) (qn : ℕ) (f : Found) → Met ea eb ql qr qn pl pr pn f
-    → (turned : Bool) → turned ≡ true → (more rest : ℕ) → more ≡ 0 → rest ≡ 0 → (r : Found) → r ≡ exchange f
-    → Searched v u z ea eb turned pl pr pn more ql qr qn rest r
+pub tips-searched : (v u : View) (z ea eb pl pr : List ℕ) (pn : ℕ) (ql qr : List ℕ) (qn : ℕ) (f : Bool) → Met ea eb ql qr qn pl pr pn f
+    → (turned : Bool) → turned ≡ true → (more rest : ℕ) → more ≡ 0 → rest ≡ 0 → Searched v u z ea eb turned pl pr pn more ql qr qn rest f
 unfolding endOf endsOver Trail faultOf
-tips-searched v u z ea eb pl pr pn ql qr qn f m turned dt more rest dm dr r d = rw (dt, dm, dr, d) (record {
-  first = λ n. standing pl pr pn (f .second) (m .second n);
-  second = λ n. standing ql qr qn (f .first) (m .first n);
-  fails = λ n. rw (none-in (f .first .path) (m .first n .stays), none-in (f .second .path) (m .second n .stays)) (m .fails n);
-  none = λ e x w p y o q a b. rw (empty p (a .long), empty q (b .long)) (m .none e y o x w (b .has) (a .has));
+tips-searched v u z ea eb pl pr pn ql qr qn f m turned dt more rest dm dr = rw (dt, dm, dr) (record {
+  some = λ e.
+      let c = m .some e in
+      record {
+        cell = c .cell′;
+        word = c .word′;
+        path = [];
+        runs = record { has = c .second; trail = tt; long = refl };
+        hit = record { cell = c .cell; word = c .word; path = []; runs = record { has = c .first; trail = tt; long = refl }; fails = c .fails };
+      };
+  none = λ e x w p a. record { each = λ y o q b. rw (empty p (a .long), empty q (b .long)) (m .none e y o x w (b .has) (a .has)) };
 })
-  where
-    none-in : (r : Route) → Shaped 0 r → linksIn r ≡ []
-    none-in r h = rw (h .long)
-
-    empty : (p : List ℕ) → length p ≡ 0 → p ≡ []
-    empty [] e = refl
-    empty (k ∷ p) e = absurd (omega arith)
-
-    standing : (ls rs : List ℕ) (n : ℕ) (t : Tail) → Standing ls rs n t → Tailed v ls rs n 0 t
-    standing ls rs n t h = record { shaped = h .stays; runs = rw (none-in (t .path) (h .stays)) (record { has = h .has; trail = tt; long = refl }) }
 
 -- the one goes no further, so the other does
-pub turn-searched : (v u : View) (z ea eb pl pr : List ℕ) (pn : ℕ) (ql qr : List ℕ) (qn rest : ℕ) (f : Found)
-    → Searched v u z ea eb true ql qr qn rest pl pr pn 0 f → (turned : Bool) → turned ≡ false → (more : ℕ) → more ≡ 0 → (r : Found) → r ≡ exchange f
-    → Searched v u z ea eb turned pl pr pn more ql qr qn rest r
+pub turn-searched : (v u : View) (z ea eb pl pr : List ℕ) (pn : ℕ) (ql qr : List ℕ) (qn rest : ℕ) (f : Bool)
+    → Searched v u z ea eb true ql qr qn rest pl pr pn 0 f → (turned : Bool) → turned ≡ false → (more : ℕ) → more ≡ 0
+    → Searched v u z ea eb turned pl pr pn more ql qr qn rest f
 unfolding faultOf
-turn-searched v u z ea eb pl pr pn ql qr qn rest f h turned dt more dm r d = rw (dt, dm, d) (record {
-  first = h .second;
-  second = h .first;
-  fails = h .fails;
-  none = λ e x w p y o q a b. h .none e y o q x w p b a;
+turn-searched v u z ea eb pl pr pn ql qr qn rest f h turned dt more dm = rw (dt, dm) (record {
+  some = λ e.
+      let c = h .some e in
+      record {
+        cell = c .hit .cell;
+        word = c .hit .word;
+        path = c .hit .path;
+        runs = c .hit .runs;
+        hit = record { cell = c .cell; word = c .word; path = c .path; runs = c .runs; fails = c .hit .fails };
+      };
+  none = λ e x w p a. record { each = λ y o q b. h .none e y o q b .each x w p a };
 })
 
 -- the links to come, each twice, and one for the turn
@@ -154,70 +83,230 @@ pub link-less : (more rest t : ℕ) (turned : Bool) → weight more rest turned 
 unfolding weight
 link-less more rest t turned e n = omega (arith, pos-of-ne-zero n)
 
--- a tip fails with no path of j links from the other table
-abbrev NoOther : View → View → List ℕ → List ℕ → List ℕ → Bool → List ℕ → List ℕ → ℕ → ℕ → ℕ → ℕ → Type 0
-NoOther v u z ea eb turned ql qr qn j x w = (y o : ℕ) (q : List ℕ) → Runs v ql qr qn j y o q → faultOf ea eb turned x w (endOf v y q) (endsOver v u z o q) ≡ 0
+module _ (v u : View) (z ea eb : List ℕ) (turned : Bool) (ql qr : List ℕ) (qn j : ℕ) where
+  -- a tip with a wider set fails with no more
+  safe-wider : (x w w′ : ℕ) → Inside w w′ → Safe v u z ea eb turned ql qr qn j x w → Safe v u z ea eb turned ql qr qn j x w′
+  unfolding faultOf
+  safe-wider x w w′ k h = record { each = λ y o q a. by _ _ turned (h .each y o q a) }
+    where
+      by : (y o : ℕ) (b : Bool) → cond b (fault ea eb y o x w) (fault ea eb x w y o) ≡ 0 → cond b (fault ea eb y o x w′) (fault ea eb x w′ y o) ≡ 0
+      by y o true e = fault-inside ea eb _ _ _ x w w′ (inside-refl _) k e
+      by y o false e = fault-inside ea eb x w w′ _ _ _ k (inside-refl _) e
 
-no-other-passes : (v u : View) (z ea eb : List ℕ) (turned : Bool) (ql qr : List ℕ) (qn j : ℕ) → Passes (NoOther v u z ea eb turned ql qr qn j)
-unfolding faultOf
-no-other-passes v u z ea eb true ql qr qn j x w w′ k h y o q a = fault-inside ea eb _ _ _ x w w′ (inside-refl _) k (h y o q a)
-no-other-passes v u z ea eb false ql qr qn j x w w′ k h y o q a = fault-inside ea eb x w w′ _ _ _ k (inside-refl _) (h y o q a)
+  -- ---- the loop over the parts one link further than a table
+  module _ (labels : List ℕ) (many : ℕ) (pl pr : List ℕ) (pn : ℕ) where
+    -- every path of d links more than one by a class and a label before a place is cleared
+    pub record Below (d at : ℕ) : Type 0 where
+      pub each : (e i x k : ℕ) (s : List ℕ) → Moves v labels many pl pn e i x k → slot e i < at → Trail v (toOf v k) s → length s ≡ d
+          → Safe v u z ea eb turned ql qr qn j (endOf v (toOf v k) s) (endsOver v u z (stepWord u z (getD pr e 0) (labelOf v k) (toOf v k)) s)
 
--- ---- the loop over the parts one link further than a table: every path by a class and a label before a place is cleared
-abbrev pub ClearedTo : View → View → List ℕ → List ℕ → List ℕ → Bool → List ℕ → List ℕ → ℕ → List ℕ → List ℕ → ℕ → ℕ → List ℕ → ℕ → ℕ → ℕ → Type 0
-ClearedTo v u z ea eb turned pl pr pn ql qr qn j labels many d at = Below v u z labels many pl pr pn at d (NoOther v u z ea eb turned ql qr qn j)
+    pub below-start : (d : ℕ) → Below d 0
+    below-start d = record { each = λ e i x k s m l. absurd (omega arith) }
 
-module _ (v u : View) (z ea eb : List ℕ) (turned : Bool) (pl pr : List ℕ) (pn : ℕ) (ql qr : List ℕ) (qn j : ℕ) (labels : List ℕ) (many : ℕ) where
-  pub cleared-start : (d : ℕ) → ClearedTo v u z ea eb turned pl pr pn ql qr qn j labels many d 0
-  cleared-start d = below-start v u z labels many pl pr pn d _
+    pub below-end : Opened (v .starts) (v .to) → Named (v .starts) (v .labels) labels many → (at more : ℕ) → (more ≡ 0 → ⊥) → (f : Bool) → f ≡ false
+        → 128 * many ≤ at → pn ≤ 128 → Below (more - 1) at → Searched v u z ea eb turned pl pr pn more ql qr qn j f
+    unfolding Trail endOf endsOver
+    below-end o names at more pos f e l few b =
+        record { some = λ t. never (sym e ∙ t); none = λ _ x w s h. go x w s (h .has) (h .trail) (h .long) }
+      where
+        go : (x w : ℕ) (s : List ℕ) → Has pl pr pn x w → Trail v x s → length s ≡ more → Safe v u z ea eb turned ql qr qn j (endOf v x s) (endsOver v u z w s)
+        go x w [] h t q = absurd (pos (sym q))
+        go x w (k ∷ s) h (t, r) q =
+            let (i, a, c) = names .each k (leaves-below v o x k (h .cell) t) in
+            let m : Moves v labels many pl pn (h .class) i x k = record { class = h .below; label = a; cell = h .cell; inside = h .inside; leaves = t; named = sym c } in
+            rw (← h .word) (b .each (h .class) i x k s m (omega (arith, h .below)) r (omega arith))
 
-  pub cleared-end : Opened (v .starts) (v .to) → Named (v .starts) (v .labels) labels many → (at rest : ℕ) → (rest ≡ 0 → ⊥) → (f : Found) → f .kind ≡ 0
-      → 128 * many ≤ at → pn ≤ 128 → ClearedTo v u z ea eb turned pl pr pn ql qr qn j labels many (rest - 1) at
-      → Searched v u z ea eb turned pl pr pn rest ql qr qn j f
-  cleared-end o names at rest pos f e l few b = record {
-    first = λ n. absurd (n e);
-    second = λ n. absurd (n e);
-    fails = λ n. absurd (n e);
-    none = λ _ x w p y o′ q a c. below-end v u z labels many pl pr pn (rest - 1) _ at b o names few l rest refl pos .each x w p a y o′ q c;
+    module _ (at : ℕ) (ls₀ rs₀ ls rs : List ℕ) (p : Part) (f : Bool) (more : ℕ) (g : Filled v u z labels many pl pr pn at ls₀ rs₀ 0 ls rs p)
+        (h : Searched v u z ea eb turned ls rs (p .count) (more - 1) ql qr qn j f) where
+      pub below-next : f ≡ false → Below (more - 1) at → Below (more - 1) (p .next)
+      below-next q b = record {
+        each = λ e i x k s m l t d. ⊎-elim
+            (λ o.
+            let c = g .whole e i x k m o l in
+            safe-wider _ _ _ (over-inside v u z s _ _ (c .inside)) (h .none q _ _ s (record { has = c .has; trail = t; long = d })))
+            (λ o. b .each e i x k s m o t d)
+            (le-or-lt at (slot e i));
+      }
+
+      -- a path from a part, with the link to it before it, is one from the table
+      pub below-found : f ≡ true → (more ≡ 0 → ⊥) → (r : Bool) → r ≡ true → Searched v u z ea eb turned pl pr pn more ql qr qn j r
+      unfolding Trail endOf endsOver
+      below-found q pos r d = record { some = λ _. by (h .some q); none = λ e. never (sym e ∙ d) }
+        where
+          by : Hitting v u z ea eb turned ls rs (p .count) (more - 1) ql qr qn j → Hitting v u z ea eb turned pl pr pn more ql qr qn j
+          by c = ⊎-elim
+              (λ i. absurd (omega (arith, i .below)))
+              (λ b. record {
+                cell = b .cell;
+                word = b .word;
+                path = b .link ∷ c .path;
+                runs = record {
+                  has = b .has;
+                  trail = (b .leads .leaves, rw (b .leads .to) (c .runs .trail));
+                  long = omega (arith, c .runs .long, pos-of-ne-zero pos);
+                };
+                hit = rw (b .leads .to, b .leads .word) (c .hit);
+              })
+              (g .sound _ _ (c .runs .has))
+
+  -- ---- the table with the one tip (x, w)
+  pub told-one : (ls rs : List ℕ) (x w a : ℕ) → a ≡ 2 ^ x → length ls ≡ 128 → length rs ≡ 128 → x < 64 → (d : ℕ) (f : Bool)
+      → Searched v u z ea eb turned (set ls 0 a) (set rs 0 w) 1 d ql qr qn j f → Told v u z ea eb turned x w d ql qr qn j f
+  told-one ls rs x w a da ll lr low d f h = record {
+    some = λ e.
+        let c = h .some e in
+        let (dx, dw) = one-only ls rs x w a w da refl ll lr _ _ (c .runs .has) in
+        record { path = c .path; trail = rw (← dx) (c .runs .trail); long = c .runs .long; hit = rw (← dx, ← dw) (c .hit) };
+    none = λ e. record { each = λ p t l. h .none e x w p (record { has = one-has ls rs x w a w da refl ll lr low; trail = t; long = l }) };
   }
 
-  module _ (at : ℕ) (ls₀ rs₀ ls rs : List ℕ) (p : Part) (f : Found) (rest : ℕ) (g : Filled v u z labels many pl pr pn at ls₀ rs₀ 0 ls rs p)
-      (h : Searched v u z ea eb turned ls rs (p .count) (rest - 1) ql qr qn j f) where
-    pub cleared-next : f .kind ≡ 0 → ClearedTo v u z ea eb turned pl pr pn ql qr qn j labels many (rest - 1) at
-        → ClearedTo v u z ea eb turned pl pr pn ql qr qn j labels many (rest - 1) (p .next)
-    cleared-next e b =
-        below-next v u z labels many pl pr pn (rest - 1) _ at b (no-other-passes v u z ea eb turned ql qr qn j) ls₀ rs₀ ls rs p g
-        (record { each = λ x w p r y o q a. h .none e x w p y o q r a })
+  -- ---- the loop over the links out of x: from the tips of those before k no path goes on
+  module _ (x w d : ℕ) where
+    pub record LinksTo (k : ℕ) : Type 0 where
+      pub each : (i : ℕ) → Leaves v x i → i < k → Barren v u z ea eb turned (toOf v i) (stepWord u z w (labelOf v i) (toOf v i)) d ql qr qn j
 
-    pub pair-found : (n : f .kind ≡ 0 → ⊥) (pos : rest ≡ 0 → ⊥) (s : Origin) → Comes v u z pl pr pn (f .first .cell) (f .first .word) s → (r : Tail)
-        → Prepended s (f .first) r → (f′ : Found) → f′ .kind ≡ f .kind → f′ .first ≡ r → f′ .second ≡ f .second
-        → Searched v u z ea eb turned pl pr pn rest ql qr qn j f′
-    pair-found n pos s c r b f′ dk df ds =
-        let on = prepended v u z ls rs (p .count) pl pr pn rest pos (f .first) (h .first n) s c r b in
-        rw (dk, df, ds) (record {
-          first = λ _. on .tailed;
-          second = λ _. h .second n;
-          fails = λ _. rw (on .end, on .word) (h .fails n);
-          none = λ e. absurd (n e);
-        })
+    pub links-start : (k : ℕ) → k ≡ startOf v x → LinksTo k
+    links-start k e = record { each = λ i l m. absurd (omega (arith, l .from)) }
 
--- ---- the table with the one tip (x, {y})
-module _ (ls rs : List ℕ) (x y a b : ℕ) (da : a ≡ 2 ^ x) (db : b ≡ 2 ^ y) (low : x < 64) (ll : length ls ≡ 128) (lr : length rs ≡ 128) where
-  pub sought : (v u : View) (z ea eb : List ℕ) (i j : ℕ) (f : Found)
-      → Searched v u z ea eb false (set ls 0 a) (set rs 0 b) 1 i (set ls 0 a) (set rs 0 b) 1 j f
-      → (r : Pair) → r .kind ≡ f .kind → r .first ≡ f .first .path → r .second ≡ f .second .path → Sought v u z ea eb x y i j r
+    module _ (k : ℕ) (h : LinksTo k) (from : startOf v x ≤ k) (e : ℕ) (de : e ≡ startOf v (x + 1)) where
+      module _ (o : ℕ) (eo : o ≡ stepWord u z w (labelOf v k) (toOf v k)) (f : Bool) (t : Told v u z ea eb turned (toOf v k) o d ql qr qn j f) where
+        pub links-next : f ≡ false → LinksTo (k + 1)
+        links-next n = record {
+          each = λ i l m. ⊎-elim (λ q. rw q (rw eo at (t .none n))) (λ s. h .each i l s) (eq-or-lt-of-le (under i m));
+        }
+          where
+            under : (i : ℕ) → i < k + 1 → i ≤ k
+            under i m = omega arith
+
+        pub links-found : f ≡ true → k + 1 < e → Next v u z ea eb turned x w d ql qr qn j k
+        links-found n m = record { leaves = record { from = from; until = omega arith }; ahead = rw eo at (t .some n); before = h .each }
+
+      -- the last link is the one
+      pub links-end : e ≤ k + 1 → Ahead v u z ea eb turned x w (d + 1) ql qr qn j → Next v u z ea eb turned x w d ql qr qn j k
+      unfolding Trail endOf endsOver
+      links-end m a = go (a .path) (a .trail) (a .long) (a .hit)
+        where
+          under : (i : ℕ) → i < e → i ≤ k
+          under i l = omega arith
+
+          go : (p : List ℕ) → Trail v x p → length p ≡ d + 1 → Hit v u z ea eb turned ql qr qn j (endOf v x p) (endsOver v u z w p)
+              → Next v u z ea eb turned x w d ql qr qn j k
+          go [] t l g = absurd (omega arith)
+          go (i ∷ p) (t, r) l g =
+              ⊎-elim
+              (λ q.
+              let a : Ahead v u z ea eb turned (toOf v i) (stepWord u z w (labelOf v i) (toOf v i)) d ql qr qn j =
+              record { path = p; trail = r; long = omega arith; hit = g } in
+              record { leaves = rw q at t; ahead = rw q at a; before = h .each })
+              (λ s. absurd (g .fails (h .each i t s .each p r (omega arith) .each _ _ _ (g .runs))))
+              (eq-or-lt-of-le (under i (rw de (t .until))))
+
+  -- ---- where the first link leads
+  module _ (x w d k : ℕ) (n : Next v u z ea eb turned x w d ql qr qn j k) where
+    pub next-ahead : (o : ℕ) → o ≡ stepWord u z w (labelOf v k) (toOf v k) → Ahead v u z ea eb turned (toOf v k) o d ql qr qn j
+    next-ahead o eo = rw eo (n .ahead)
+
+    module _ (o : Opened (v .starts) (v .to)) (low : x < 64) where
+      pub next-below : k < 512
+      next-below = omega (arith, leaves-below v o x k low (n .leaves), o .few)
+
+      pub next-low : toOf v k < 64
+      next-low = leaves-low v o x k low (n .leaves)
+
+  pub ahead-less : (x w more : ℕ) → (more ≡ 0 → ⊥) → Ahead v u z ea eb turned x w more ql qr qn j → Ahead v u z ea eb turned x w (more - 1 + 1) ql qr qn j
+  ahead-less x w more pos a = let e : more - 1 + 1 ≡ more = omega (arith, pos-of-ne-zero pos) in rw e a
+
+  -- ---- the first path from a tip
+  module _ (x w : ℕ) where
+    pub path-stays : (more : ℕ) → more ≡ 0 → x < 64 → Ahead v u z ea eb turned x w more ql qr qn j → (r : Tail) → r .cell ≡ x → r .word ≡ w → r .path ≡ noLinks
+        → Foremost v u z ea eb turned x w more ql qr qn j r
+    unfolding Trail endOf endsOver Before
+    path-stays more dm low a r dx dw dp = rw (dx, dw, dp, dm) (record {
+      shaped = record { long = refl; room = refl };
+      trail = tt;
+      cell = refl;
+      word = refl;
+      low = low;
+      hit = rw (empty (a .path) (a .long ∙ dm)) at (a .hit);
+      before = λ p t l b. absurd (rw (empty p l) at b);
+    })
+
+    pub path-goes : (more k : ℕ) → (more ≡ 0 → ⊥) → more ≤ 4 → Next v u z ea eb turned x w (more - 1) ql qr qn j k
+        → (o : ℕ) → o ≡ stepWord u z w (labelOf v k) (toOf v k) → (t : Tail) → Foremost v u z ea eb turned (toOf v k) o (more - 1) ql qr qn j t
+        → (s : Route) → Prepended k (t .path) s → (r : Tail) → r .cell ≡ t .cell → r .word ≡ t .word → r .path ≡ s
+        → Foremost v u z ea eb turned x w more ql qr qn j r
+    unfolding Trail endOf endsOver Before
+    path-goes more k pos few n o eo t f s b r dx dw dp = rw (dx, dw, dp) (record {
+      shaped = record { long = omega (arith, b .long, f .shaped .long, pos-of-ne-zero pos); room = b .room };
+      trail = rw links (n .leaves, f .trail);
+      cell = rw links (f .cell);
+      word = rw links (rw eo at (f .word));
+      low = f .low;
+      hit = f .hit;
+      before = λ p t l m. go p t l (rw links at m);
+    })
+      where
+        links : linksIn s ≡ k ∷ linksIn (t .path)
+        links = b .path (f .shaped .room)
+
+        go : (p : List ℕ) → Trail v x p → length p ≡ more → Before p (k ∷ linksIn (t .path)) → Safe v u z ea eb turned ql qr qn j (endOf v x p) (endsOver v u z w p)
+        go [] h l m = absurd m
+        go (i ∷ p) (h, h′) l m =
+            ⊎-elim
+            (λ q. n .before i h q .each p h′ (omega arith))
+            (λ (q, c). rw q (rw eo at (f .before p (rw q at h′) (omega arith) c)))
+            m
+
+-- ---- two paths from the tip (x, {y})
+module _ (v u : View) (z ea eb ls rs : List ℕ) (x y a b : ℕ) (da : a ≡ 2 ^ x) (db : b ≡ 2 ^ y) (low : x < 64) (ll : length ls ≡ 128) (lr : length rs ≡ 128) (i j : ℕ) where
+  pub sought-none : (f : Bool) → f ≡ false → Told v u z ea eb false x b i (set ls 0 a) (set rs 0 b) 1 j f → (r : Pair) → r .kind ≡ 0 → Sought v u z ea eb x y i j r
   unfolding failure alone fault faultOf
-  sought v u z ea eb i j f h r dk dp dq =
-      rw (dk, dp, dq) (record {
-        first = λ n. path (f .first) i (h .first n);
-        second = λ n. path (f .second) j (h .second n);
-        fails = λ n.
-            let (px, pw) = one-only ls rs x y a b da db ll lr _ _ (h .first n .runs .has) in
-            let (qx, qw) = one-only ls rs x y a b da db ll lr _ _ (h .second n .runs .has) in
-            rw (px, pw, qx, qw) at (h .fails n);
-        none = λ e p q tp lp tq lq.
-            h .none e x (2 ^ y) p x (2 ^ y) q (record { has = one-has ls rs x y a b da db low ll lr; trail = tp; long = lp }) (record { has = one-has ls rs x y a b da db low ll lr; trail = tq; long = lq });
+  sought-none f e t r d = record {
+    found = λ n. absurd (n d);
+    none = λ _. record {
+      each = λ p q tp lp tq lq. rw db at (t .none e .each p tp lp .each x b q (record { has = one-has ls rs x b a b da refl ll lr low; trail = tq; long = lq }));
+    };
+  }
+
+  module _ (p : Tail) (f : Foremost v u z ea eb false x b i (set ls 0 a) (set rs 0 b) 1 j p) (a′ : ℕ) (da′ : a′ ≡ 2 ^ p .cell) where
+    ll′ : length (set ls 0 a) ≡ 128
+    ll′ = length-set ls 0 a ∙ ll
+
+    lr′ : length (set rs 0 b) ≡ 128
+    lr′ = length-set rs 0 b ∙ lr
+
+    here : Has (set (set ls 0 a) 0 a′) (set (set rs 0 b) 0 (p .word)) 1 (p .cell) (p .word)
+    here = one-has (set ls 0 a) (set rs 0 b) (p .cell) (p .word) a′ (p .word) da′ refl ll′ lr′ (f .low)
+
+    -- the second path, with the first fixed
+    pub second-ahead : Ahead v u z ea eb true x b j (set (set ls 0 a) 0 a′) (set (set rs 0 b) 0 (p .word)) 1 0
+    unfolding Trail endOf endsOver faultOf
+    second-ahead =
+        let (dx, dw) = one-only ls rs x b a b da refl ll lr _ _ (f .hit .runs .has) in
+        record {
+          path = f .hit .path;
+          trail = rw (← dx) (f .hit .runs .trail);
+          long = f .hit .runs .long;
+          hit = record { cell = p .cell; word = p .word; path = []; runs = record { has = here; trail = tt; long = refl }; fails = rw (← dx, ← dw) (f .hit .fails) };
+        }
+
+    module _ (q : Tail) (g : Foremost v u z ea eb true x b j (set (set ls 0 a) 0 a′) (set (set rs 0 b) 0 (p .word)) 1 0 q) (k : ℕ) (dk : k ≡ fault ea eb (p .cell) (p .word) (q .cell) (q .word)) where
+      fails-so : fault ea eb (p .cell) (p .word) (q .cell) (q .word) ≡ 0 → ⊥
+      unfolding endOf endsOver faultOf
+      fails-so =
+          let (dx, dw) = one-only (set ls 0 a) (set rs 0 b) (p .cell) (p .word) a′ (p .word) da′ refl ll′ lr′ _ _ (g .hit .runs .has) in
+          rw (empty (g .hit .path) (g .hit .runs .long), dx, dw) at (g .hit .fails)
+
+      pub sought-some : (r : Pair) → r .kind ≡ k → r .first ≡ p .path → r .second ≡ q .path → Sought v u z ea eb x y i j r
+      unfolding Trail endOf endsOver failure alone fault faultOf
+      sought-some r dr dp dq = rw (dr, dp, dq) (record {
+        found = λ _. record {
+          first = (f .shaped, f .trail);
+          second = (g .shaped, g .trail);
+          fails = dk ∙ rw (f .cell, f .word, g .cell, g .word, db);
+          sooner = λ p′ q′ tp lp m tq lq.
+              rw db at (f .before p′ tp lp m .each x b q′ (record { has = one-has ls rs x b a b da refl ll lr low; trail = tq; long = lq }));
+          next = λ q′ t l m. rw (f .cell, f .word, db) at (g .before q′ t l m .each (p .cell) (p .word) [] (record { has = here; trail = tt; long = refl }));
+        };
+        none = λ e. absurd (fails-so (sym dk ∙ e));
       })
-    where
-      path : (t : Tail) (d : ℕ) → Tailed v (set ls 0 a) (set rs 0 b) 1 d t → Shaped d (t .path) × Trail v x (linksIn (t .path))
-      path t d g = (g .shaped, rw (one-only ls rs x y a b da db ll lr _ _ (g .runs .has) .0) at (g .runs .trail))

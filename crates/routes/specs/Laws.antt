@@ -1,20 +1,34 @@
 -- What a kind says, and that whatever fails with a set fails with each set inside of it. Assumes nothing.
-use mathlib.Core.Bool.{Bool, true, false, So}
+use mathlib.Core.Bool.{Bool, true, false, So, false≢true}
 use mathlib.Core.Path.{_≡_, refl, sym, ap, _∙_}
 use mathlib.Core.Logic.{_⊎_, inl, inr}
 use mathlib.Core.List.{List}
-use Prim.Native.Nat.{ℕ}
+use Prim.Native.Nat.{ℕ, _^_, _<_}
 use native.Mathlib.Nat.{lt-of-le-of-lt}
 use native.Mathlib.Omega.{arith}
 use borrow.Author.Tests.{eqb-true, eq-eqb}
 use lib.Bits.{bitAnd, and-le-r}
-use Rattle.theory.specs.Tests.{never, and-iff, test-fails}
+use Rattle.theory.specs.Search.{any}
+use Rattle.theory.specs.Tests.{never, and-iff, any-iff, test-fails}
 use Rattle.words.specs.Words.{bit, Inside}
 use Rattle.words.specs.Laws.{bit-and, bit-zero, zero-iff}
 use Rattle.hops.specs.Sets.{spread, rowAt}
 use Rattle.hops.specs.Laws.{spread-lt}
 use Rattle.classes.specs.Laws.{spread-inside}
 use Rattle.routes.specs.Pairs.{kindOf, failing, fault}
+
+-- a test that cannot pass
+pub test-off : (b : Bool) → (So b → ⊥) → b ≡ false
+test-off true f = absurd (f refl)
+test-off false f = refl
+
+-- a word that is not 0 has a node
+pub some-node : (w : ℕ) → w < 2 ^ 64 → (w ≡ 0 → ⊥) → (y : ℕ) × (y < 64) × So (bit w y)
+some-node w l n = by (any 64 (bit w)) refl
+  where
+    by : (e : Bool) → any 64 (bit w) ≡ e → (y : ℕ) × (y < 64) × So (bit w y)
+    by true h = any-iff 64 (bit w) .0 h
+    by false h = absurd (n (zero-iff 64 w l .1 (λ i m. test-off (bit w i) (λ e. false≢true (sym h ∙ any-iff 64 (bit w) .1 (i, m, e))))))
 
 pub kind-none : (a b : Bool) → kindOf a b ≡ 0 → (a ≡ false) × (b ≡ false)
 unfolding kindOf

@@ -1,7 +1,8 @@
 -- Two paths without counterpart, over the words that the search computes.
-use mathlib.Core.Bool.{Bool, So, cond, not, _&&_}
+use mathlib.Core.Bool.{Bool, cond, not, _&&_, _||_}
+use mathlib.Core.Logic.{_⊎_}
 use mathlib.Core.Path.{_≡_}
-use mathlib.Core.List.{List}
+use mathlib.Core.List.{List, [], _∷_}
 use Prim.Native.Nat.{ℕ, _^_, _≤_, _<_}
 use lib.Bits.{bitAnd}
 use lib.Dec.{eqb}
@@ -11,7 +12,6 @@ use Rattle.hops.specs.Hops.{View, Opened}
 use Rattle.hops.specs.Sets.{spread, rowAt}
 use Rattle.classes.specs.Paths.{Trail, endOf, endsOver}
 use Rattle.routes.specs.declared.Wanted.{Wanted}
-use Rattle.routes.specs.declared.Clash.{Clash}
 use Rattle.routes.specs.declared.Route.{Route}
 use Rattle.routes.specs.declared.Pair.{Pair}
 
@@ -43,26 +43,14 @@ wantedOf ea eb t l r = record { ends = spread (rowAt ea t) l; answers = spread (
 unfoldable pub missing : Wanted → ℕ → ℕ → Bool
 missing n l r = not (eqb (bitAnd (n .ends) l) 0) && eqb (bitAnd r (n .answers)) 0
 
--- The kind by which it has none.
-unfoldable pub classFault : Wanted → Wanted → ℕ → ℕ → ℕ
-classFault same differ l r = kindOf (missing same l r) (missing differ l r)
+-- Some path of the class has none by same or by differ.
+unfoldable pub unmet : Wanted → Wanted → ℕ → ℕ → Bool
+unmet same differ l r = missing same l r || missing differ l r
 
--- The kind by which paths of class p of one table and of class q of another fail.
-abbrev pub clashing : List ℕ → List ℕ → List ℕ → List ℕ → List ℕ → List ℕ → ℕ → ℕ → ℕ
+-- Some paths of class p of one table and of class q of another fail.
+abbrev pub clashing : List ℕ → List ℕ → List ℕ → List ℕ → List ℕ → List ℕ → ℕ → ℕ → Bool
 clashing ea eb pl pr ql qr p q =
-    classFault (wantedOf ea eb 0 (getD pl p 0) (getD pr p 0)) (wantedOf ea eb 1 (getD pl p 0) (getD pr p 0)) (getD ql q 0) (getD qr q 0)
-
--- Two classes with paths that fail, or that there are none.
-pub record Clashed (ea eb pl pr : List ℕ) (pn : ℕ) (ql qr : List ℕ) (qn : ℕ) (r : Clash) : Type 0 where
-  pub first : (r .kind ≡ 0 → ⊥) → r .first < pn
-  pub second : (r .kind ≡ 0 → ⊥) → r .second < qn
-  pub fails : (r .kind ≡ 0 → ⊥) → r .kind ≡ clashing ea eb pl pr ql qr (r .first) (r .second)
-  pub none : r .kind ≡ 0 → (p q : ℕ) → p < pn → q < qn → clashing ea eb pl pr ql qr p q ≡ 0
-
--- A node of l that passes comparison t with y, if there is one.
-pub record Partner (ea : List ℕ) (t l y x : ℕ) : Type 0 where
-  pub low : x < 64
-  pub found : So (bit (spread (rowAt ea t) l) y) → So (bit l x) × So (bit (rowAt ea t x) y)
+    unmet (wantedOf ea eb 0 (getD pl p 0) (getD pr p 0)) (wantedOf ea eb 1 (getD pl p 0) (getD pr p 0)) (getD ql q 0) (getD qr q 0)
 
 -- The links of a route.
 abbrev pub linksIn : Route → List ℕ
@@ -73,12 +61,28 @@ pub record Shaped (d : ℕ) (w : Route) : Type 0 where
   pub long : w .len ≡ d
   pub room : length (w .links) ≡ 4
 
--- Two paths of i and j links that fail, or that there are none.
+-- The path p comes before q, of as many links, in the order of the links.
+unfoldable pub Before : List ℕ → List ℕ → Type 0
+Before [] q = ⊥
+Before (k ∷ p) [] = ⊥
+Before (k ∷ p) (l ∷ q) = (k < l) ⊎ ((k ≡ l) × Before p q)
+
+-- No two paths of i and j links fail.
+pub record Clear (v u : View) (z ea eb : List ℕ) (x y i j : ℕ) : Type 0 where
+  pub each : (p q : List ℕ) → Trail v x p → length p ≡ i → Trail v x q → length q ≡ j → failure v u z ea eb x y p q ≡ 0
+
+-- The two paths are of i and j links, and fail by their kind; none with a first path before theirs do, nor with theirs and a second before.
+pub record Shown (v u : View) (z ea eb : List ℕ) (x y i j : ℕ) (r : Pair) : Type 0 where
+  pub first : Shaped i (r .first) × Trail v x (linksIn (r .first))
+  pub second : Shaped j (r .second) × Trail v x (linksIn (r .second))
+  pub fails : r .kind ≡ failure v u z ea eb x y (linksIn (r .first)) (linksIn (r .second))
+  pub sooner : (p q : List ℕ) → Trail v x p → length p ≡ i → Before p (linksIn (r .first)) → Trail v x q → length q ≡ j → failure v u z ea eb x y p q ≡ 0
+  pub next : (q : List ℕ) → Trail v x q → length q ≡ j → Before q (linksIn (r .second)) → failure v u z ea eb x y (linksIn (r .first)) q ≡ 0
+
+-- The first two paths of i and j links that fail, or that there are none.
 pub record Sought (v u : View) (z ea eb : List ℕ) (x y i j : ℕ) (r : Pair) : Type 0 where
-  pub first : (r .kind ≡ 0 → ⊥) → Shaped i (r .first) × Trail v x (linksIn (r .first))
-  pub second : (r .kind ≡ 0 → ⊥) → Shaped j (r .second) × Trail v x (linksIn (r .second))
-  pub fails : (r .kind ≡ 0 → ⊥) → r .kind ≡ failure v u z ea eb x y (linksIn (r .first)) (linksIn (r .second))
-  pub none : r .kind ≡ 0 → (p q : List ℕ) → Trail v x p → length p ≡ i → Trail v x q → length q ≡ j → failure v u z ea eb x y p q ≡ 0
+  pub found : (r .kind ≡ 0 → ⊥) → Shown v u z ea eb x y i j r
+  pub none : r .kind ≡ 0 → Clear v u z ea eb x y i j
 
 -- What the search asks.
 pub record Asked (sa ta sb tb : List ℕ) (x y i j : ℕ) : Type 0 where

@@ -1,13 +1,11 @@
 // The search for two paths without counterpart, in one direction: from cell x of the first book, with cell y of the other for its partner.
-// The loops over the first and the second path run over classes of paths that no test of the search can tell apart.
+// Whether there are any is decided over classes of paths that no test of the search can tell apart; the first two are then found link by link.
 ghost use mathlib.Core.Bool.{true};
 ghost use mathlib.Core.Path.{_≡_};
-ghost use Prim.Native.Nat.{_≤_, _<_};
+ghost use Prim.Native.Nat.{_+_, _≤_, _<_};
 ghost use Rattle.hops.specs.Hops.{viewOf};
-ghost use Rattle.classes.specs.declared.Origin.{Origin};
-ghost use Rattle.routes.specs.Pairs.{wantedOf, missing, classFault, Clashed, Partner, Asked, Sought};
-ghost use Rattle.routes.specs.Tails.{tailAt, Prepended, Meeting, Picked, Met, exchange, Seeking, Searched};
-use classes::Origin;
+ghost use Rattle.routes.specs.Pairs.{wantedOf, missing, unmet, failing, fault, Asked, Sought};
+ghost use Rattle.routes.specs.Tails.{noLinks, Prepended, Met, Seeking, Searched, Ahead, Told, Next, Foremost};
 
 // What a class of first paths asks of a class of second ones for one comparison: the ends that pass with one of its own, and the other book's
 // ends that pass with an end of a path alike to it.
@@ -37,158 +35,17 @@ fn misses(n: Wanted, l: u64, r: u64) -> bool
     words::meet(r, n.answers) == 0
 }
 
-// By which comparison some path of the class has no counterpart: 5 same, 6 differ, 0 neither.
-fn unmatched(same: Wanted, differ: Wanted, l: u64, r: u64) -> u8
-    ensures { λ k. ⌜ k ≡ classFault same differ l r ⌝ }
+// Whether some path of the class has no counterpart by same or by differ.
+fn unmatched(same: Wanted, differ: Wanted, l: u64, r: u64) -> bool
+    ensures { λ b. ⌜ b ≡ unmet same differ l r ⌝ }
 {
     if misses(same, l, r) {
-        return 5;
+        return true;
     }
-    if misses(differ, l, r) {
-        return 6;
-    }
-    0
+    misses(differ, l, r)
 }
 
-// Two classes with paths without counterpart: kind 5 by same, 6 by differ; 0 where there are none.
-pub struct Clash {
-    pub kind: u8,
-    pub first: usize,
-    pub second: usize,
-}
-
-// The first two classes, of the pn of one table and the qn of another, with paths without counterpart.
-fn first_clash(
-    ea: &[u64; 128],
-    eb: &[u64; 128],
-    pl: &[u64; 128],
-    pr: &[u64; 128],
-    pn: usize,
-    ql: &[u64; 128],
-    qr: &[u64; 128],
-    qn: usize,
-) -> Clash
-    requires { ⌜ (pn ≤ 128) × (qn ≤ 128) ⌝ }
-    ensures { λ r. ⌜ Clashed (now (ea .entry)) (now (eb .entry)) (now (pl .entry)) (now (pr .entry)) pn (now (ql .entry)) (now (qr .entry)) qn r ⌝ }
-{
-    let mut kind = 0u8;
-    let mut p = 0;
-    let mut q = 0;
-    'search: while p < pn {
-        let same = asks(ea, eb, 0, pl[p], pr[p]);
-        let differ = asks(ea, eb, 1, pl[p], pr[p]);
-        q = 0;
-        while q < qn {
-            kind = unmatched(same, differ, ql[q], qr[q]);
-            if kind != 0 {
-                break 'search;
-            }
-            q += 1;
-        }
-        p += 1;
-    }
-    Clash {
-        kind,
-        first: p,
-        second: q,
-    }
-}
-
-// A cell of l that passes comparison t with y.
-fn partner(ea: &[u64; 128], t: u8, l: u64, y: u8) -> u8
-    requires { ⌜ (t < 2) × (y < 64) ⌝ }
-    ensures { λ x. ⌜ Partner (now (ea .entry)) t l y x ⌝ }
-{
-    let mut left = l;
-    while left != 0 {
-        let x = words::lowest(left);
-        if words::has(hops::row(ea, t, x), y) {
-            return x;
-        }
-        left = words::without(left, x);
-    }
-    0
-}
-
-// A path by the numbers of its first `len` links.
-pub struct Route {
-    pub len: u8,
-    pub links: [u16; 4],
-}
-
-// A path from a cell, with the set that belongs to the cell.
-pub struct Tail {
-    pub cell: u8,
-    pub word: u64,
-    pub path: Route,
-}
-
-// Two paths without counterpart: kind 5 by same, 6 by differ; 0 where there are none.
-pub struct Found {
-    pub kind: u8,
-    pub first: Tail,
-    pub second: Tail,
-}
-
-// The path with no links.
-fn tail_at(cell: u8, word: u64) -> Tail
-    ensures { λ r. ⌜ r ≡ tailAt cell word ⌝ }
-{
-    Tail {
-        cell,
-        word,
-        path: Route {
-            len: 0,
-            links: [0u16; 4],
-        },
-    }
-}
-
-// No two paths.
-fn nothing() -> Found
-    ensures { λ r. ⌜ r .kind ≡ 0 ⌝ }
-{
-    let t = tail_at(0, 0);
-    Found {
-        kind: 0,
-        first: t,
-        second: t,
-    }
-}
-
-// The path t with a link before it.
-fn behind(s: Origin, t: Tail) -> Tail
-    requires { ⌜ t .path .len < 4 ⌝ }
-    ensures { λ r. ⌜ Prepended s t r ⌝ }
-{
-    let path = t.path;
-    let links = path.links;
-    Tail {
-        cell: s.cell,
-        word: s.word,
-        path: Route {
-            len: path.len + 1,
-            links: [s.link, links[0], links[1], links[2]],
-        },
-    }
-}
-
-// The tips of two classes that clash by the kind: (x, r) and (y, s), with x in l and y in m that pass the comparison.
-fn pick(ea: &[u64; 128], kind: u8, l: u64, r: u64, m: u64, s: u64) -> Found
-    requires { ⌜ Meeting (now ea) kind l m ⌝ }
-    ensures { λ f. ⌜ Picked (now (ea .entry)) kind l r m s f ⌝ }
-{
-    let t = kind - 5;
-    let y = words::lowest(words::meet(hops::passing(ea, t, l), m));
-    let x = partner(ea, t, l, y);
-    Found {
-        kind,
-        first: tail_at(x, r),
-        second: tail_at(y, s),
-    }
-}
-
-// Two tips without counterpart, one of each of two tables.
+// Whether two tips, one of each of two tables, have no counterpart.
 pub fn two_tips(
     ea: &[u64; 128],
     eb: &[u64; 128],
@@ -198,34 +55,30 @@ pub fn two_tips(
     ql: &[u64; 128],
     qr: &[u64; 128],
     qn: usize,
-) -> Found
+) -> bool
     requires { ⌜ (pn ≤ 128) × (qn ≤ 128) ⌝ }
     ensures { λ r. ⌜ Met (now (ea .entry)) (now (eb .entry)) (now (pl .entry)) (now (pr .entry)) pn (now (ql .entry)) (now (qr .entry)) qn r ⌝ }
 {
-    let c = first_clash(ea, eb, pl, pr, pn, ql, qr, qn);
-    if c.kind == 0 {
-        return nothing();
+    let mut found = false;
+    let mut p = 0;
+    'search: while p < pn {
+        let same = asks(ea, eb, 0, pl[p], pr[p]);
+        let differ = asks(ea, eb, 1, pl[p], pr[p]);
+        let mut q = 0;
+        while q < qn {
+            found = unmatched(same, differ, ql[q], qr[q]);
+            if found {
+                break 'search;
+            }
+            q += 1;
+        }
+        p += 1;
     }
-    let p = c.first;
-    let q = c.second;
-    pick(ea, c.kind, pl[p], pr[p], ql[q], qr[q])
+    found
 }
 
-// The same two paths, in the other order.
-fn exchanged(f: Found) -> Found
-    ensures { λ r. ⌜ r ≡ exchange f ⌝ }
-{
-    let first = f.second;
-    let second = f.first;
-    Found {
-        kind: f.kind,
-        first,
-        second,
-    }
-}
-
-// Two paths without counterpart: one with `more` links further than the classes of the table p, the other with `rest` links further than those
-// of the table q. The one is the first of the two, or the second where they are turned; then the other goes no further.
+// Whether there are two paths without counterpart: one with `more` links further than the classes of the table p, the other with `rest` links
+// further than those of the table q. The one is the first of the two, or the second where they are turned; then the other goes no further.
 fn seek(
     sa: &[u16; 65],
     la: &[u16; 512],
@@ -247,15 +100,15 @@ fn seek(
     qn: usize,
     rest: u8,
     turned: bool,
-) -> Found
+) -> bool
     requires { ⌜ Seeking (now sa) (now la) (now ta) (now sb) (now tb) (now labels) many pn qn × (more ≤ 4) × (rest ≤ 4) × (turned ≡ true → rest ≡ 0) ⌝ }
     ensures { λ r. ⌜ Searched (viewOf (now (sa .entry)) (now (la .entry)) (now (ta .entry))) (viewOf (now (sb .entry)) (now (lb .entry)) (now (tb .entry))) (now (z .entry)) (now (ea .entry)) (now (eb .entry)) turned (now (pl .entry)) (now (pr .entry)) pn more (now (ql .entry)) (now (qr .entry)) qn rest r ⌝ }
 {
     if more == 0 {
         if turned {
-            return exchanged(two_tips(ea, eb, ql, qr, qn, pl, pr, pn));
+            return two_tips(ea, eb, ql, qr, qn, pl, pr, pn);
         }
-        return exchanged(seek(
+        return seek(
             sa,
             la,
             ta,
@@ -276,7 +129,7 @@ fn seek(
             pn,
             0,
             true,
-        ));
+        );
     }
     let mut l = [0u64; 128];
     let mut r = [0u64; 128];
@@ -300,7 +153,7 @@ fn seek(
             &mut r,
             0,
         );
-        let f = seek(
+        if seek(
             sa,
             la,
             ta,
@@ -321,20 +174,268 @@ fn seek(
             qn,
             rest,
             turned,
-        );
-        if f.kind != 0 {
-            let t = f.first;
-            let second = f.second;
-            let s = classes::back(sa, la, ta, sb, lb, tb, z, pl, pr, pn, t.cell, t.word);
-            return Found {
-                kind: f.kind,
-                first: behind(s, t),
-                second,
-            };
+        ) {
+            return true;
         }
         at = part.next;
     }
-    nothing()
+    false
+}
+
+// Whether there are two such paths, the one with `more` links further than the tip (x, w).
+fn leads_on(
+    sa: &[u16; 65],
+    la: &[u16; 512],
+    ta: &[u8; 512],
+    ea: &[u64; 128],
+    sb: &[u16; 65],
+    lb: &[u16; 512],
+    tb: &[u8; 512],
+    eb: &[u64; 128],
+    z: &[u64; 64],
+    labels: &[u16; 512],
+    many: usize,
+    x: u8,
+    w: u64,
+    more: u8,
+    ql: &[u64; 128],
+    qr: &[u64; 128],
+    qn: usize,
+    rest: u8,
+    turned: bool,
+) -> bool
+    requires { ⌜ Seeking (now sa) (now la) (now ta) (now sb) (now tb) (now labels) many 1 qn × (x < 64) × (more ≤ 4) × (rest ≤ 4) × (turned ≡ true → rest ≡ 0) ⌝ }
+    ensures { λ r. ⌜ Told (viewOf (now (sa .entry)) (now (la .entry)) (now (ta .entry))) (viewOf (now (sb .entry)) (now (lb .entry)) (now (tb .entry))) (now (z .entry)) (now (ea .entry)) (now (eb .entry)) turned x w more (now (ql .entry)) (now (qr .entry)) qn rest r ⌝ }
+{
+    let mut l = [0u64; 128];
+    let mut r = [0u64; 128];
+    l[0] = words::only(x);
+    r[0] = w;
+    seek(
+        sa,
+        la,
+        ta,
+        ea,
+        sb,
+        lb,
+        tb,
+        eb,
+        z,
+        labels,
+        many,
+        &l,
+        &r,
+        1,
+        more,
+        ql,
+        qr,
+        qn,
+        rest,
+        turned,
+    )
+}
+
+// The first link out of x that leads to a tip from which there are two such paths, the one with `more` links further. There is one: the last is
+// not tried.
+fn next_link(
+    sa: &[u16; 65],
+    la: &[u16; 512],
+    ta: &[u8; 512],
+    ea: &[u64; 128],
+    sb: &[u16; 65],
+    lb: &[u16; 512],
+    tb: &[u8; 512],
+    eb: &[u64; 128],
+    z: &[u64; 64],
+    labels: &[u16; 512],
+    many: usize,
+    x: u8,
+    w: u64,
+    more: u8,
+    ql: &[u64; 128],
+    qr: &[u64; 128],
+    qn: usize,
+    rest: u8,
+    turned: bool,
+) -> u16
+    requires { ⌜ Seeking (now sa) (now la) (now ta) (now sb) (now tb) (now labels) many 1 qn × (x < 64) × (more < 4) × (rest ≤ 4) × (turned ≡ true → rest ≡ 0) × Ahead (viewOf (now sa) (now la) (now ta)) (viewOf (now sb) (now lb) (now tb)) (now z) (now ea) (now eb) turned x w (more + 1) (now ql) (now qr) qn rest ⌝ }
+    ensures { λ r. ⌜ Next (viewOf (now (sa .entry)) (now (la .entry)) (now (ta .entry))) (viewOf (now (sb .entry)) (now (lb .entry)) (now (tb .entry))) (now (z .entry)) (now (ea .entry)) (now (eb .entry)) turned x w more (now (ql .entry)) (now (qr .entry)) qn rest r ⌝ }
+{
+    let until = sa[x as usize + 1];
+    let mut k = sa[x as usize];
+    while k + 1 < until {
+        let y = ta[k as usize];
+        let o = classes::step(sb, lb, tb, z, w, la[k as usize], y);
+        if leads_on(
+            sa,
+            la,
+            ta,
+            ea,
+            sb,
+            lb,
+            tb,
+            eb,
+            z,
+            labels,
+            many,
+            y,
+            o,
+            more,
+            ql,
+            qr,
+            qn,
+            rest,
+            turned,
+        ) {
+            return k;
+        }
+        k += 1;
+    }
+    k
+}
+
+// A path by the numbers of its first `len` links.
+pub struct Route {
+    pub len: u8,
+    pub links: [u16; 4],
+}
+
+// The path with no links.
+fn no_links() -> Route
+    ensures { λ r. ⌜ r ≡ noLinks ⌝ }
+{
+    Route {
+        len: 0,
+        links: [0u16; 4],
+    }
+}
+
+// The path s with link k before it.
+fn behind(k: u16, s: Route) -> Route
+    requires { ⌜ s .len < 4 ⌝ }
+    ensures { λ r. ⌜ Prepended k s r ⌝ }
+{
+    let links = s.links;
+    Route {
+        len: s.len + 1,
+        links: [k, links[0], links[1], links[2]],
+    }
+}
+
+// A path and its tip.
+pub struct Tail {
+    pub cell: u8,
+    pub word: u64,
+    pub path: Route,
+}
+
+// The first path with `more` links from the tip (x, w), in the order of the links, that has no counterpart with one of the others; and its tip.
+fn first_path(
+    sa: &[u16; 65],
+    la: &[u16; 512],
+    ta: &[u8; 512],
+    ea: &[u64; 128],
+    sb: &[u16; 65],
+    lb: &[u16; 512],
+    tb: &[u8; 512],
+    eb: &[u64; 128],
+    z: &[u64; 64],
+    labels: &[u16; 512],
+    many: usize,
+    x: u8,
+    w: u64,
+    more: u8,
+    ql: &[u64; 128],
+    qr: &[u64; 128],
+    qn: usize,
+    rest: u8,
+    turned: bool,
+) -> Tail
+    requires { ⌜ Seeking (now sa) (now la) (now ta) (now sb) (now tb) (now labels) many 1 qn × (x < 64) × (more ≤ 4) × (rest ≤ 4) × (turned ≡ true → rest ≡ 0) × Ahead (viewOf (now sa) (now la) (now ta)) (viewOf (now sb) (now lb) (now tb)) (now z) (now ea) (now eb) turned x w more (now ql) (now qr) qn rest ⌝ }
+    ensures { λ r. ⌜ Foremost (viewOf (now (sa .entry)) (now (la .entry)) (now (ta .entry))) (viewOf (now (sb .entry)) (now (lb .entry)) (now (tb .entry))) (now (z .entry)) (now (ea .entry)) (now (eb .entry)) turned x w more (now (ql .entry)) (now (qr .entry)) qn rest r ⌝ }
+{
+    if more == 0 {
+        return Tail {
+            cell: x,
+            word: w,
+            path: no_links(),
+        };
+    }
+    let k = next_link(
+        sa,
+        la,
+        ta,
+        ea,
+        sb,
+        lb,
+        tb,
+        eb,
+        z,
+        labels,
+        many,
+        x,
+        w,
+        more - 1,
+        ql,
+        qr,
+        qn,
+        rest,
+        turned,
+    );
+    let y = ta[k as usize];
+    let o = classes::step(sb, lb, tb, z, w, la[k as usize], y);
+    let t = first_path(
+        sa,
+        la,
+        ta,
+        ea,
+        sb,
+        lb,
+        tb,
+        eb,
+        z,
+        labels,
+        many,
+        y,
+        o,
+        more - 1,
+        ql,
+        qr,
+        qn,
+        rest,
+        turned,
+    );
+    let s = t.path;
+    Tail {
+        cell: t.cell,
+        word: t.word,
+        path: behind(k, s),
+    }
+}
+
+// Whether two tips have no counterpart by comparison t.
+fn fails(ea: &[u64; 128], eb: &[u64; 128], t: u8, x: u8, w: u64, y: u8, o: u64) -> bool
+    requires { ⌜ (t < 2) × (x < 64) × (y < 64) ⌝ }
+    ensures { λ b. ⌜ b ≡ failing (now (ea .entry)) (now (eb .entry)) t x w y o ⌝ }
+{
+    if words::has(hops::row(ea, t, x), y) {
+        return words::meet(o, hops::passing(eb, t, w)) == 0;
+    }
+    false
+}
+
+// By which comparison two tips have no counterpart: 5 same, 6 differ, 0 neither.
+fn kind_of(ea: &[u64; 128], eb: &[u64; 128], x: u8, w: u64, y: u8, o: u64) -> u8
+    requires { ⌜ (x < 64) × (y < 64) ⌝ }
+    ensures { λ k. ⌜ k ≡ fault (now (ea .entry)) (now (eb .entry)) x w y o ⌝ }
+{
+    if fails(ea, eb, 0, x, w, y, o) {
+        return 5;
+    }
+    if fails(ea, eb, 1, x, w, y, o) {
+        return 6;
+    }
+    0
 }
 
 // Two paths by their links: kind 5 by same, 6 by differ; 0 where there are none.
@@ -344,7 +445,20 @@ pub struct Pair {
     pub second: Route,
 }
 
-// Two paths of i and j links from x whose ends pass a comparison, and that have no counterpart from y.
+// No two paths.
+pub fn no_pair() -> Pair
+    ensures { λ r. ⌜ r .kind ≡ 0 ⌝ }
+{
+    let w = no_links();
+    Pair {
+        kind: 0,
+        first: w,
+        second: w,
+    }
+}
+
+// The first two paths of i and j links from x, in the order of the links, first by the first path, whose ends pass a comparison, and that have no
+// counterpart from y.
 pub fn two_paths(
     sa: &[u16; 65],
     la: &[u16; 512],
@@ -366,11 +480,12 @@ pub fn two_paths(
     let labels = classes::labels_of(sa, la);
     let many = labels.count;
     let list = labels.list;
-    let mut lefts = [0u64; 128];
-    let mut rights = [0u64; 128];
-    lefts[0] = words::only(x);
-    rights[0] = words::only(y);
-    let f = seek(
+    let partner = words::only(y);
+    let mut l = [0u64; 128];
+    let mut r = [0u64; 128];
+    l[0] = words::only(x);
+    r[0] = partner;
+    if leads_on(
         sa,
         la,
         ta,
@@ -382,23 +497,66 @@ pub fn two_paths(
         z,
         &list,
         many,
-        &lefts,
-        &rights,
-        1,
+        x,
+        partner,
         i,
-        &lefts,
-        &rights,
+        &l,
+        &r,
         1,
         j,
         false,
-    );
-    let p = f.first;
-    let q = f.second;
-    let first = p.path;
-    let second = q.path;
-    Pair {
-        kind: f.kind,
-        first,
-        second,
+    ) {
+        let p = first_path(
+            sa,
+            la,
+            ta,
+            ea,
+            sb,
+            lb,
+            tb,
+            eb,
+            z,
+            &list,
+            many,
+            x,
+            partner,
+            i,
+            &l,
+            &r,
+            1,
+            j,
+            false,
+        );
+        l[0] = words::only(p.cell);
+        r[0] = p.word;
+        let q = first_path(
+            sa,
+            la,
+            ta,
+            ea,
+            sb,
+            lb,
+            tb,
+            eb,
+            z,
+            &list,
+            many,
+            x,
+            partner,
+            j,
+            &l,
+            &r,
+            1,
+            0,
+            true,
+        );
+        let first = p.path;
+        let second = q.path;
+        return Pair {
+            kind: kind_of(ea, eb, p.cell, p.word, q.cell, q.word),
+            first,
+            second,
+        };
     }
+    no_pair()
 }

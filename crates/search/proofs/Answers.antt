@@ -1,46 +1,39 @@
--- What the search answers is the theory's clause, or a reason of the theory. Assumes nothing.
+-- What the search answers is what the theory chooses. Assumes nothing.
 use mathlib.Core.Bool.{Bool, true, false, So, cond, not, _&&_, false≢true}
-use mathlib.Core.Path.{_≡_, refl, sym, ap, _∙_}
+use mathlib.Core.Path.{_≡_, refl, sym, ap, ap₂, _∙_}
 use mathlib.Core.Logic.{_⊎_, inl, inr, ⊎-elim}
 use mathlib.Core.List.{List, [], _∷_}
-use Prim.Native.Nat.{ℕ, suc, _+_, _^_, _≤_, _<_}
+use Prim.Native.Nat.{ℕ, suc, _+_, _-_, _/_, _^_, _≤_, _<_}
 use native.Mathlib.Omega.{arith}
-use borrow.Author.Tests.{not-true, ne-eqb}
+use borrow.Author.Tests.{eqb-true, eq-eqb, ne-eqb}
 use lib.Dec.{eqb}
 use lib.ListN.{length, getD}
 use lib.Pow.{pow-lt}
 use lib.Seq.{getD-take, length-take-le}
-use Rattle.theory.specs.Tests.{le-or-lt, any-iff, and-iff, facts}
-use Rattle.theory.specs.Graph.{Comparison, same, differ, Graph, linked}
-use Rattle.theory.specs.Path.{Hop, hop, Path, Walk, end}
-use Rattle.theory.specs.Walks.{linked-inside}
+use Rattle.theory.specs.Search.{any}
+use Rattle.theory.specs.Tests.{any-iff, and-iff, facts}
+use Rattle.theory.specs.Graph.{Comparison, same, differ, comparisons, Graph, linked}
+use Rattle.theory.specs.Path.{Hop, Path, Walk, end, out}
+use Rattle.theory.specs.Walks.{linked-inside, out-iff}
 use Rattle.theory.specs.Bisimulation.{Relation}
-use Rattle.theory.specs.Rounds.{follow, met, zigs}
-use Rattle.theory.specs.Clauses.{Into, met-iff, zigs-iff}
-use Rattle.theory.specs.Parting.{byPaths, LinkFails, PathsFail, Fails}
+use Rattle.theory.specs.Rounds.{follow, met}
+use Rattle.theory.specs.Parting.{byLink, byPaths, LinkFails}
+use Rattle.theory.specs.Choosing.{Choice, none, some, orElse, when, firstIn, linkChoice, pairChoice, lengthsChoice, totalChoice, pathsChoice, chosen, first-none, list-first, list-none}
 use Rattle.words.specs.Words.{bit}
 use Rattle.words.specs.Laws.{bit-zero}
 use Rattle.hops.specs.Hops.{View, startOf, toOf, hopAt, Opened}
-use Rattle.classes.specs.Paths.{Trail, pathOf, endsOver}
+use Rattle.classes.specs.Paths.{Leaves, Trail, pathOf, endsOver}
 use Rattle.classes.specs.Laws.{leaves-below, leaves-low, trail-links}
 use Rattle.routes.specs.declared.Route.{Route}
 use Rattle.routes.specs.declared.Pair.{Pair}
-use Rattle.routes.specs.Pairs.{alone, failure, linksIn, Shaped}
-use Rattle.routes.specs.Laws.{kind-none, kind-some}
+use Rattle.routes.specs.Pairs.{kindOf, alone, failure, linksIn, Shaped, Clear, Shown}
+use Rattle.routes.specs.Laws.{test-off, some-node, kind-some}
 use Rattle.search.specs.declared.Steps.{Steps}
 use Rattle.search.specs.declared.Reason.{Reason}
-use Rattle.search.specs.Lengths.{Most, Clear, Shown, Fewest, Unanswered, Single}
-use Rattle.search.specs.Reasons.{numberOf, Posed, stepsOf, pathIn, reasonOf, Numbered, Answered}
-use Rattle.search.specs.Bridge.{path-length, leaves-linked, linked-leaves, trail-walk, walk-trail, test-off, relationOf, some-node, ends-from, over-lt, met-ext, alone-is}
-
-met-on : (a b : Bool) → a && not b ≡ false → So a → So b
-met-on true true e d = refl
-met-on true false e d = sym e
-met-on false b e d = absurd (false≢true d)
-
--- the comparison of a kind
-abbrev comparisonOf : ℕ → Comparison
-comparisonOf k = cond (eqb k 5) same differ
+use Rattle.search.specs.Lengths.{Most, Sooner, Outcome, Unanswered, Single}
+use Rattle.search.specs.Reasons.{numberOf, Posed, stepsOf, reasonOf, choiceOf, Numbered, Answered}
+use Rattle.search.specs.Bridge.{leaves-linked, linked-leaves, trail-walk, relationOf, ends-from, over-lt, met-ext, alone-is}
+use Rattle.search.proofs.Firsts.{hops-first, trails-none, trails-first}
 
 module _ (v : View) (o : Opened (v .starts) (v .to)) (x : ℕ) (l : x < 64) where
   numbered-of : (c d : ℕ) (w : Route) → Shaped d w → Trail v x (linksIn w) → d ≤ c → c ≤ 4 → Numbered (v .to) c (stepsOf w)
@@ -54,12 +47,22 @@ module _ (v : View) (o : Opened (v .starts) (v .to)) (x : ℕ) (l : x < 64) wher
       each : (i : ℕ) → i < w .len → (getD (linksIn w) i 0 < 512) × (toOf v (getD (linksIn w) i 0) < 64)
       each i b = trail-links v o x (linksIn w) l t i (omega (arith, length-take-le (w .len) (w .links) (omega (arith, h .long, h .room))))
 
-reason-is : (v : View) (s : Reason) (k : ℕ) → s .kind ≡ k → (k ≡ 4 → ⊥) → reasonOf v s ≡ byPaths (comparisonOf k) (pathIn v (s .first)) (pathIn v (s .second))
-unfolding reasonOf
-reason-is v s k d n = rw (d, ne-eqb k 4 n)
+-- what is chosen by a kind
+unfoldable byKind : ℕ → Path → Path → Choice
+byKind k p q = cond (eqb k 0) none (some (byPaths (cond (eqb k 5) same differ) p q))
+
+by-kind : (m n : Bool) (p q : Path) → orElse (when m (byPaths same p q)) (orElse (when n (byPaths differ p q)) none) ≡ byKind (kindOf m n) p q
+unfolding byKind kindOf orElse when
+by-kind true n p q = refl
+by-kind false true p q = refl
+by-kind false false p q = refl
+
+by-none : (k : ℕ) (p q : Path) → k ≡ 0 → byKind k p q ≡ none
+unfolding byKind
+by-none k p q e = rw (eq-eqb k 0 e)
 
 -- ---- graphs and a relation that the lists show
-module _ (l r : Graph) (z : Relation) (v u : View) (rows ea eb : List ℕ) (a b c : ℕ) (d : Posed l r z v u rows ea eb a b) where
+module _ (l r : Graph) (z : Relation) (v u : View) (rows ea eb : List ℕ) (a b : ℕ) (d : Posed l r z v u rows ea eb a b) where
   at-left : a < 64
   at-left = omega (arith, d .left .small, d .here)
 
@@ -75,52 +78,87 @@ module _ (l r : Graph) (z : Relation) (v u : View) (rows ea eb : List ℕ) (a b 
       alone-is v u l r rows ea eb (d .left) (d .right) t a b (d .here) (d .there) p q wp wq
       ∙ ap (λ (m : Bool). l .ends t (end a (pathOf v p)) (end a (pathOf v q)) && not m) (met-rows t (pathOf v p) (pathOf v q) wp wq)
 
-  -- two paths that are alone fail
-  paths-fail : (t : Comparison) (p q : List ℕ) → Trail v a p → Trail v a q → length p ≤ c → length q ≤ c
-      → So (alone v u rows ea eb a b (numberOf t) p q) → PathsFail l r c z a b t (pathOf v p) (pathOf v q)
-  paths-fail t p q tp tq lp lq e =
+  -- two paths are chosen by the kind by which they fail
+  pair-is : (p q : List ℕ) → Trail v a p → Trail v a q
+      → pairChoice l r z a b (pathOf v p) (pathOf v q) ≡ byKind (failure v u rows ea eb a b p q) (pathOf v p) (pathOf v q)
+  unfolding pairChoice firstIn comparisons failure
+  pair-is p q tp tq =
       let wp = trail-walk v l ea (d .left) a p at-left tp in
       let wq = trail-walk v l ea (d .left) a q at-left tq in
-      let (f, g) = and-iff _ _ .0 (sym (alone-at t p q wp wq) ∙ e) in
-      record { short = rw path-length lp; short′ = rw path-length lq; walk = wp; walk′ = wq; ends = f; missing = not-true _ g }
+      ap₂ (λ (m n : Bool). orElse (when m (byPaths same (pathOf v p) (pathOf v q))) (orElse (when n (byPaths differ (pathOf v p) (pathOf v q))) none))
+      (sym (alone-at same p q wp wq)) (sym (alone-at differ p q wp wq))
+      ∙ by-kind _ _ (pathOf v p) (pathOf v q)
 
-  -- paths of cleared lengths have a counterpart
-  clear-met : (t : Comparison) (p q : Path) → Clear v u rows ea eb a b (length p) (length q) → Walk l a p → Walk l a q
-      → l .ends t (end a p) (end a q) ≡ true → So (met r z b t p q)
-  unfolding failure
-  clear-met t p q k wp wq e =
-      let (p′, tp, dp) = walk-trail v l ea (d .left) a p at-left wp in
-      let (q′, tq, dq) = walk-trail v l ea (d .left) a q at-left wq in
-      let (n, m) = kind-none _ _ (k .each p′ q′ tp (sym (path-length v p′) ∙ ap length dp) tq (sym (path-length v q′) ∙ ap length dq)) in
-      let off : alone v u rows ea eb a b (numberOf t) p′ q′ ≡ false = by t p′ q′ n m in
-      met-on _ _ (rw (dp, dq) at (sym (alone-at t p′ q′ (rw dp wp) (rw dq wq)) ∙ off)) e
-    where
-      by : (t : Comparison) (p q : List ℕ) → alone v u rows ea eb a b 0 p q ≡ false → alone v u rows ea eb a b 1 p q ≡ false
-          → alone v u rows ea eb a b (numberOf t) p q ≡ false
-      by same p q n m = n
-      by differ p q n m = m
+  pair-clear : (p q : List ℕ) → Trail v a p → Trail v a q → failure v u rows ea eb a b p q ≡ 0 → pairChoice l r z a b (pathOf v p) (pathOf v q) ≡ none
+  pair-clear p q tp tq e = pair-is p q tp tq ∙ by-none _ _ _ e
 
-  met-turn : (t : Comparison) (p q : Path) → So (met r z b t q p) → So (met r z b t p q)
-  unfolding met
-  met-turn t p q e =
-      let (y, ly, (f, (y′, ly′, (f′, g)))) = simp (any-iff, and-iff) at e in
-      simp (any-iff, and-iff) (y′, ly′, (f′, (y, ly, (f, d .right .even t y y′ g))))
+  -- ---- two paths of two lengths
+  clear-none : (i j : ℕ) → Clear v u rows ea eb a b i j → lengthsChoice l r z a b i j ≡ none
+  unfolding lengthsChoice
+  clear-none i j h =
+      trails-none v l ea (d .left) i a at-left _
+      (λ p tp lp. trails-none v l ea (d .left) j a at-left _ (λ q tq lq. pair-clear p q tp tq (h .each p q tp lp tq lq)))
 
-  -- so have paths of either order, where the lengths below n in all are cleared
-  module _ (n : ℕ) (clear : (k m : ℕ) → Most c k m → k + m < n → Clear v u rows ea eb a b k m) where
-    all-met : (t : Comparison) (p q : Path) → length p ≤ c → length q ≤ c → length p + length q < n → Walk l a p → Walk l a q
-        → l .ends t (end a p) (end a q) ≡ true → So (met r z b t p q)
-    all-met t p q u v s wp wq e =
-        ⊎-elim
-        (λ o. clear-met t p q (clear (length p) (length q) (record { order = o; most = v }) s) wp wq e)
-        (λ o. met-turn t p q (clear-met t q p (clear (length q) (length p) (record { order = omega arith; most = u }) (omega arith)) wq wp (d .left .even t _ _ e)))
-        (le-or-lt (length p) (length q))
+  module _ (w : Pair) (n : w .kind ≡ 0 → ⊥) where
+    -- the reason that two paths are
+    abbrev because : Choice
+    because = byKind (w .kind) (pathOf v (linksIn (w .first))) (pathOf v (linksIn (w .second)))
 
-    fewest-of : (t : Comparison) (p q : Path) → PathsFail l r c z a b t p q → n ≤ length p + length q
-    fewest-of t p q f =
-        ⊎-elim (λ h. h)
-        (λ s. absurd (false≢true (sym (f .missing) ∙ all-met t p q (f .short) (f .short′) s (f .walk) (f .walk′) (f .ends))))
-        (le-or-lt n (length p + length q))
+    because-is : because ≡ some (byPaths (cond (eqb (w .kind) 5) same differ) (pathOf v (linksIn (w .first))) (pathOf v (linksIn (w .second))))
+    unfolding byKind
+    because-is = rw (ne-eqb (w .kind) 0 n)
+
+    shown-some : (i j : ℕ) → i ≤ 4 → j ≤ 4 → Shown v u rows ea eb a b i j w → lengthsChoice l r z a b i j ≡ because
+    unfolding lengthsChoice
+    shown-some i j bi bj h =
+        let (sp, tp) = h .first in
+        let (sq, tq) = h .second in
+        let li = long i (w .first) bi sp in
+        let lj = long j (w .second) bj sq in
+        rw (← li, ← lj)
+        (trails-first v l ea (d .left) (linksIn (w .first)) a at-left tp _ _
+        (trails-first v l ea (d .left) (linksIn (w .second)) a at-left tq _ _ (pair-is _ _ tp tq ∙ rw (← h .fails) because-is)
+        (λ q t e m. pair-clear (linksIn (w .first)) q tp t (h .next q t (e ∙ lj) m)))
+        (λ p t e m. trails-none v l ea (d .left) _ a at-left _ (λ q t′ e′. pair-clear p q t t′ (h .sooner p q t (e ∙ li) m t′ (e′ ∙ lj))))
+        ∙ sym because-is)
+      where
+        long : (k : ℕ) (s : Route) → k ≤ 4 → Shaped k s → length (linksIn s) ≡ k
+        long k s m h = length-take-le (s .len) (s .links) (omega (arith, h .long, h .room)) ∙ h .long
+
+  -- ---- two paths of at most c links
+  module _ (c : ℕ) where
+    -- two lengths that are looked at for a total
+    looked : (s n : ℕ) → n < suc (s / 2) - (s - c) → s ≤ c + c → Most c (s - c + n) (s - (s - c + n)) × (s - c + n + (s - (s - c + n)) ≡ s)
+    looked s n m b = (record { order = omega arith; most = omega arith }, omega arith)
+
+    total-clear : (s : ℕ) → s ≤ c + c → ((i j : ℕ) → Most c i j → i + j ≡ s → Clear v u rows ea eb a b i j) → totalChoice l r c z a b s ≡ none
+    unfolding totalChoice
+    total-clear s b h =
+        list-none _ (suc (s / 2) - (s - c)) (λ i. s - c + i) .1
+        (λ n m. let (o, e) = looked s n m b in clear-none (s - c + n) (s - (s - c + n)) (h _ _ o e))
+
+    paths-clear : ((i j : ℕ) → Most c i j → Clear v u rows ea eb a b i j) → pathsChoice l r c z a b ≡ none
+    unfolding pathsChoice
+    paths-clear h = list-none _ (suc (c + c)) (λ s. s) .1 (λ s m. total-clear s (omega arith) (λ i j o _. h i j o))
+
+    paths-found : (w : Pair) (n : w .kind ≡ 0 → ⊥) (i j : ℕ) → c ≤ 4 → Most c i j → Shown v u rows ea eb a b i j w
+        → ((k m : ℕ) → Most c k m → Sooner k m i j → Clear v u rows ea eb a b k m) → pathsChoice l r c z a b ≡ because w n
+    unfolding pathsChoice totalChoice
+    paths-found w n i j small o h before =
+        list-first _ (suc (c + c)) (λ s. s) (i + j) _ (omega (arith, o .order, o .most))
+        (λ s m. total-clear s (omega (arith, o .order, o .most)) (λ k p q e. before k p q (inl (omega arith))))
+        (list-first _ (suc ((i + j) / 2) - (i + j - c)) (λ k. i + j - c + k) (i - (i + j - c)) _ (omega (arith, o .order, o .most))
+        (λ k m.
+        let (q, e) = looked (i + j) k (omega (arith, o .order, o .most)) (omega (arith, o .order, o .most)) in
+        clear-none _ _ (before _ _ q (inr (e, omega arith))))
+        (rw (di, dj) (shown-some w n i j (omega (arith, o .order, o .most)) (omega (arith, o .most)) h ∙ because-is w n)))
+        ∙ sym (because-is w n)
+      where
+        di : i + j - c + (i - (i + j - c)) ≡ i
+        di = omega (arith, o .order, o .most)
+
+        dj : i + j - i ≡ j
+        dj = omega arith
 
   -- ---- one link
   link-fails : (k : ℕ) → Unanswered v u rows a b k → LinkFails l r z a b (hopAt v k)
@@ -137,40 +175,38 @@ module _ (l r : Graph) (z : Relation) (v u : View) (rows ea eb : List ℕ) (a b 
             false≢true (sym (bit-zero y) ∙ ap (λ (x : ℕ). bit x y) (sym (n .none)) ∙ ends-from v u r eb (d .right) rows b at-right (k ∷ []) y small .1 f));
       }
 
-  link-met : ((k : ℕ) → Unanswered v u rows a b k → ⊥) → (e w : ℕ) → linked l a e w ≡ true → (w′ : ℕ) × (linked r b e w′ ≡ true) × (z w w′ ≡ true)
+  link-answers : (k : ℕ) → Leaves v a k → (Unanswered v u rows a b k → ⊥) → So (any (r .size) (λ b′. linked r b (hopAt v k .label) b′ && z (hopAt v k .to) b′))
   unfolding pathOf follow endsOver
-  link-met n e w k =
-      let (j, o, q) = linked-leaves v l ea (d .left) a e w at-left k in
-      let (i, li, f) = some-node (endsOver v u rows (2 ^ b) (j ∷ [])) (over-lt v u rows (j ∷ []) (2 ^ b) (pow-lt at-right)) (λ s. n j (record { leaves = o; none = s })) in
-      let g : So (follow r (relationOf rows) (hop e w ∷ []) b i) =
-      ap (λ (h : Hop). follow r (relationOf rows) (h ∷ []) b i) q ∙ ends-from v u r eb (d .right) rows b at-right (j ∷ []) i li .0 f in
-      let (i′, li′, ((t, j), _)) = simp (any-iff, and-iff) at g in
-      (i′, t, sym (d .related w i′ (linked-inside (d .left .formed) a e w k) li′) ∙ j)
+  link-answers k o n =
+      let e = leaves-linked v l ea (d .left) a k at-left o in
+      let (i, li, f) = some-node (endsOver v u rows (2 ^ b) (k ∷ [])) (over-lt v u rows (k ∷ []) (2 ^ b) (pow-lt at-right)) (λ s. n (record { leaves = o; none = s })) in
+      let (i′, li′, ((t, j), _)) = simp (any-iff, and-iff) at (ends-from v u r eb (d .right) rows b at-right (k ∷ []) i li .0 f) in
+      simp (any-iff, and-iff) (i′, li′, (t, sym (d .related _ i′ (linked-inside (d .left .formed) a _ _ e) li′) ∙ j))
 
-  link-stands : ((k : ℕ) → Unanswered v u rows a b k → ⊥) → (h : Hop) → LinkFails l r z a b h → ⊥
-  link-stands n h f =
-      let (w, i, j) = link-met n (h .label) (h .to) (f .there) in
-      false≢true (sym (f .missing) ∙ simp (any-iff, and-iff) (w, linked-inside (d .right .formed) b (h .label) w i, (i, j)))
+  links-none : ((k : ℕ) → Unanswered v u rows a b k → ⊥) → linkChoice l r z a b ≡ none
+  unfolding linkChoice when
+  links-none n =
+      first-none _ (out (l .links) a) .1
+      (λ h m.
+      let (k, o, q) = linked-leaves v l ea (d .left) a (h .label) (h .to) at-left (out-iff (l .links) a h .0 m) in
+      ap (λ (h : Hop). when (not (any (r .size) (λ b′. linked r b (h .label) b′ && z (h .to) b′))) (byLink h)) q
+      ∙ ap (λ (e : Bool). when (not e) (byLink (hopAt v k))) (link-answers k o (n k)))
 
-  -- ---- nothing is owed
-  owes-none : ((k : ℕ) → Unanswered v u rows a b k → ⊥)
-      → ((k m : ℕ) → Most c k m → Clear v u rows ea eb a b k m) → zigs l r c z a b ≡ true
-  owes-none one two =
-      zigs-iff r z into l c a b (d .there) .1
-      (record {
-        two = λ t p q i j wp wq e.
-            met-iff r z into b t p q (d .there) .0 (all-met (suc (c + c)) (λ k m o _. two k m o) t p q i j (omega arith) wp wq e);
-        one = link-met one;
-      })
-    where
-      into : Into r z
-      into b x y h e _ = linked-inside (d .right .formed) b x y e
+  links-first : (k : ℕ) → Unanswered v u rows a b k → ((j : ℕ) → j < k → Unanswered v u rows a b j → ⊥) → linkChoice l r z a b ≡ some (byLink (hopAt v k))
+  unfolding linkChoice when
+  links-first k n before =
+      rw (d .left .hops a at-left)
+      (hops-first v _ (byLink (hopAt v k)) (startOf v a) _ k (n .leaves .from) (omega (arith, n .leaves .until))
+      (λ j m i.
+      let o : Leaves v a j = record { from = m; until = omega (arith, n .leaves .until) } in
+      ap (λ (e : Bool). when (not e) (byLink (hopAt v j))) (link-answers j o (before j i)))
+      (ap (λ (e : Bool). when (not e) (byLink (hopAt v k))) (link-fails k n .missing)))
 
 -- ---- the two searches, one after the other
 module _ (v u : View) (rows ea eb : List ℕ) (a b c : ℕ) (o : Opened (v .starts) (v .to)) (low : a < 64) (n : ℕ) (l : Single v u rows a b n) where
   pub why-link : n < startOf v (a + 1) → (s : Reason) → s .kind ≡ 4 → s .first ≡ record { len = 1; links = n ∷ 0 ∷ 0 ∷ 0 ∷ [] } → s .second .len ≡ 0
       → Answered v u rows ea eb a b c s
-  unfolding reasonOf
+  unfolding reasonOf choiceOf chosen orElse
   why-link t s k e f = record {
     known = λ _. (omega arith, omega arith);
     one = λ _. (
@@ -184,56 +220,45 @@ module _ (v u : View) (rows ea eb : List ℕ) (a b c : ℕ) (o : Opened (v .star
       f,
     );
     two = λ h. absurd (omega arith);
-    fails = λ g h z d _. rw (k, e) (link-fails g h z v u rows ea eb a b c d n (l .found t));
-    links = λ _ _ _ _ h. absurd (omega arith);
-    fewest = λ _ _ _ _ h. absurd (omega arith);
-    none = λ _ _ _ _ h. absurd (omega arith);
+    is = λ g h z d. rw (k, e) (sym (ap (λ (x : Choice). orElse x (pathsChoice g h c z a b)) (links-first g h z v u rows ea eb a b d n (l .found t) (l .before))));
   }
 
-  module _ (t : startOf v (a + 1) ≤ n) (small : c ≤ 4) (r : Pair) (f : Fewest v u rows ea eb a b c r) (s : Reason) (k : s .kind ≡ r .kind)
+  module _ (t : startOf v (a + 1) ≤ n) (small : c ≤ 4) (r : Pair) (f : Outcome v u rows ea eb a b (Most c) r) (s : Reason) (k : s .kind ≡ r .kind)
       (e : s .first ≡ stepsOf (r .first)) (e′ : s .second ≡ stepsOf (r .second)) where
-    -- by which comparison the paths fail
-    by-kind : {i j : ℕ} → Shown v u rows ea eb a b i j r → (s .kind ≡ 0 → ⊥)
-        → ((s .kind ≡ 5) × So (alone v u rows ea eb a b 0 (linksIn (r .first)) (linksIn (r .second))))
-        ⊎ ((s .kind ≡ 6) × So (alone v u rows ea eb a b 1 (linksIn (r .first)) (linksIn (r .second))))
+    -- the kind of two paths
+    kinds : {i j : ℕ} → Shown v u rows ea eb a b i j r → (s .kind ≡ 0 → ⊥) → (s .kind ≡ 5) ⊎ (s .kind ≡ 6)
     unfolding failure
-    by-kind w n =
+    kinds w n =
         let d = k ∙ w .fails in
-        ⊎-elim (λ (h, o). inl (d ∙ h, o)) (λ (h, _, o). inr (d ∙ h, o)) (kind-some _ _ (λ z. n (d ∙ z)))
+        ⊎-elim (λ (h, _). inl (d ∙ h)) (λ (h, _, _). inr (d ∙ h)) (kind-some _ _ (λ z. n (d ∙ z)))
 
-    some : (s .kind ≡ 0 → ⊥) → r .kind ≡ 0 → ⊥
-    some n z = n (k ∙ z)
-
-    -- a path of d links
-    short : (d : ℕ) (w : Route) → Shaped d w → d ≤ c → length (linksIn w) ≤ c
-    short d w h m = omega (arith, length-take-le (w .len) (w .links) (omega (arith, h .long, h .room)), h .long)
+    some-pair : (s .kind ≡ 0 → ⊥) → r .kind ≡ 0 → ⊥
+    some-pair n z = n (k ∙ z)
 
     pub why-two : Answered v u rows ea eb a b c s
+    unfolding choiceOf reasonOf chosen orElse byKind
     why-two = record {
-      known = λ n. (let (i, j, m, w) = f .outcome .found (some n) in
-          ⊎-elim (λ (five, _). (omega arith, omega arith)) (λ (six, _). (omega arith, omega arith)) (by-kind w n));
+      known = λ n. (let (i, j, m, w, _) = f .found (some-pair n) in ⊎-elim (λ five. (omega arith, omega arith)) (λ six. (omega arith, omega arith)) (kinds w n));
       one = λ h. (let n : s .kind ≡ 0 → ⊥ = λ z. omega arith in
-          let (i, j, m, w) = f .outcome .found (some n) in
-          ⊎-elim (λ (five, _). absurd (omega arith)) (λ (six, _). absurd (omega arith)) (by-kind w n));
-      two = λ h. (let (i, j, m, w) = f .outcome .found (some (λ z. omega arith)) in
+          let (i, j, m, w, _) = f .found (some-pair n) in ⊎-elim (λ five. absurd (omega arith)) (λ six. absurd (omega arith)) (kinds w n));
+      two = λ h. (let (i, j, m, w, _) = f .found (some-pair (λ z. omega arith)) in
           rw (e, e′) (
             numbered-of v o a low c i (r .first) (w .first .0) (w .first .1) (omega (arith, m .order, m .most)) small,
             numbered-of v o a low c j (r .second) (w .second .0) (w .second .1) (m .most) small,
           ));
-      fails = fails-of;
-      links = λ g h z d _. link-stands g h z v u rows ea eb a b c d (l .none t);
-      fewest = λ g h z d n t p q w.
-          rw (e, e′) (fewest-of g h z v u rows ea eb a b c d (r .first .len + r .second .len) (f .fewest (some (λ z. omega arith))) t p q w);
-      none = λ g h z d n. owes-none g h z v u rows ea eb a b c d (l .none t) (f .outcome .none (sym k ∙ n));
+      is = λ g h z d. choice g h z d (eqb (r .kind) 0) refl;
     }
       where
-        fails-of : (g h : Graph) (z : Relation) → Posed g h z v u rows ea eb a b → (s .kind ≡ 0 → ⊥) → Fails g h c z a b (reasonOf v s)
-        fails-of g h z d n =
-            let (i, j, m, w) = f .outcome .found (some n) in
-            let fail : (t : Comparison) → So (alone v u rows ea eb a b (numberOf t) (linksIn (r .first)) (linksIn (r .second)))
-            → PathsFail g h c z a b t (pathIn v (stepsOf (r .first))) (pathIn v (stepsOf (r .second))) =
-            λ t o. paths-fail g h z v u rows ea eb a b c d t _ _ (w .first .1) (w .second .1) (short i (r .first) (w .first .0) (omega (arith, m .order, m .most))) (short j (r .second) (w .second .0) (m .most)) o in
-            ⊎-elim
-            (λ (q, o). rw (reason-is v s 5 q (λ z. omega arith), e, e′) (fail same o))
-            (λ (q, o). rw (reason-is v s 6 q (λ z. omega arith), e, e′) (fail differ o))
-            (by-kind w n)
+        unlinked : (g h : Graph) (z : Relation) → Posed g h z v u rows ea eb a b → chosen g h c z a b ≡ pathsChoice g h c z a b
+        unlinked g h z d =
+            ap (λ (x : Choice). orElse x (pathsChoice g h c z a b))
+            (links-none g h z v u rows ea eb a b d (λ j q. l .before j (omega (arith, q .leaves .until)) q))
+
+        choice : (g h : Graph) (z : Relation) → Posed g h z v u rows ea eb a b → (y : Bool) → eqb (r .kind) 0 ≡ y → choiceOf v s ≡ chosen g h c z a b
+        choice g h z d true q = rw (k, q) (sym (unlinked g h z d ∙ paths-clear g h z v u rows ea eb a b d c (f .none (eqb-true (r .kind) 0 q))))
+        choice g h z d false q =
+            let n : r .kind ≡ 0 → ⊥ = λ y. false≢true (sym q ∙ eq-eqb (r .kind) 0 y) in
+            let (i, j, m, w, before) = f .found n in
+            let four : r .kind ≡ 4 → ⊥ = λ y. ⊎-elim (λ five. omega arith) (λ six. omega arith) (kinds w (λ y. n (sym k ∙ y))) in
+            let this : choiceOf v s ≡ because g h z v u rows ea eb a b d r n = rw (k, e, e′, ne-eqb (r .kind) 4 four) in
+            this ∙ sym (unlinked g h z d ∙ paths-found g h z v u rows ea eb a b d c r n i j small m w before)

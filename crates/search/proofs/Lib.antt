@@ -1,3 +1,4 @@
 pub mod Ranges
 pub mod Links
+pub mod Firsts
 pub mod Answers

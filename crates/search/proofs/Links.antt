@@ -20,13 +20,13 @@ module _ (v u : View) (z : List ℕ) (x y : ℕ) where
 
   module _ (k : ℕ) (h : LinksTo v u z x y k) where
     pub links-end : (e : ℕ) → e ≡ startOf v (x + 1) → e ≤ k → Single v u z x y e
-    links-end e d l = record { found = λ b. absurd (omega arith); none = λ _ j n. h .each j (omega (arith, n .leaves .until)) n }
+    links-end e d l = record { found = λ b. absurd (omega arith); before = λ j m n. h .each j (omega (arith, n .leaves .until)) n }
 
     module _ (w r : ℕ) (dw : w ≡ 2 ^ y) (dr : r ≡ stepWord u z w (labelOf v k) (toOf v k)) where
       pub links-found : (e : ℕ) → e ≡ startOf v (x + 1) → startOf v x ≤ k → k < e → r ≡ 0 → Single v u z x y k
       links-found e d m l q = record {
         found = λ _. record { leaves = record { from = m; until = omega arith }; none = rw dw at (sym dr ∙ q) };
-        none = λ b. absurd (omega arith);
+        before = h .each;
       }
 
       pub links-next : (r ≡ 0 → ⊥) → LinksTo v u z x y (k + 1)

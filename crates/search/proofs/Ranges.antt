@@ -1,15 +1,15 @@
 -- The ways out of the functions that go through the lengths. Assumes nothing.
-use mathlib.Core.Path.{_≡_}
-use mathlib.Core.Logic.{⊎-elim}
+use mathlib.Core.Path.{_≡_, _∙_}
+use mathlib.Core.Logic.{inr, ⊎-elim}
 use mathlib.Core.List.{List}
 use Prim.Native.Nat.{ℕ, _+_, _-_, _/_, _≤_, _<_}
 use native.Mathlib.Nat.{eq-or-lt-of-le}
 use native.Mathlib.Omega.{arith}
 use Rattle.hops.specs.Hops.{View}
 use Rattle.routes.specs.declared.Pair.{Pair}
-use Rattle.routes.specs.Pairs.{Asked, Sought}
+use Rattle.routes.specs.Pairs.{Asked, Clear, Sought}
 use Rattle.covering.specs.Covering.{NoneFails}
-use Rattle.search.specs.Lengths.{Ready, Total, Most, Clear, Outcome, Fewest}
+use Rattle.search.specs.Lengths.{Ready, Total, Most, Outcome}
 
 pub asked : (sa ta sb tb : List ℕ) (x y i j : ℕ) → Ready sa ta sb tb x y → i ≤ 4 → j ≤ 4 → Asked sa ta sb tb x y i j
 asked sa ta sb tb x y i j r li lj = record { left = r .left; right = r .right; cell = r .cell; partner = r .partner; first = li; second = lj }
@@ -33,7 +33,7 @@ module _ (v u : View) (z ea eb : List ℕ) (x y c s : ℕ) where
     pub lengths-next : (r : Pair) → Sought v u z ea eb x y i (s - i) r → r .kind ≡ 0 → LengthsTo v u z ea eb x y c s (i + 1)
     lengths-next r o n = record {
       each = λ k l w m. ⊎-elim
-          (λ q. clear-at v u z ea eb x y k l i (s - i) q (omega (arith, w .all)) (record { each = o .none n }))
+          (λ q. clear-at v u z ea eb x y k l i (s - i) q (omega (arith, w .all)) (o .none n))
           (λ b. h .each k l w b)
           (eq-or-lt-of-le (under k i m));
     }
@@ -41,16 +41,17 @@ module _ (v u : View) (z ea eb : List ℕ) (x y c s : ℕ) where
     pub lengths-end : s / 2 < i → (r : Pair) → r .kind ≡ 0 → Outcome v u z ea eb x y (Total c s) r
     lengths-end g r d = record { found = λ n. absurd (n d); none = λ _ k l w. h .each k l w (omega (arith, w .all, w .order)) }
 
-  pub lengths-found : (i : ℕ) → s - c ≤ i → i ≤ s / 2 → (r : Pair) → Sought v u z ea eb x y i (s - i) r → (r .kind ≡ 0 → ⊥) → Outcome v u z ea eb x y (Total c s) r
-  lengths-found i lo hi r o n = record {
-    found = λ _. (
-      i,
-      s - i,
-      record { all = omega arith; order = omega arith; most = omega arith },
-      record { first = o .first n; second = o .second n; fails = o .fails n },
-    );
-    none = λ e. absurd (n e);
-  }
+    pub lengths-found : s - c ≤ i → i ≤ s / 2 → (r : Pair) → Sought v u z ea eb x y i (s - i) r → (r .kind ≡ 0 → ⊥) → Outcome v u z ea eb x y (Total c s) r
+    lengths-found lo hi r o n = record {
+      found = λ _. (
+        i,
+        s - i,
+        record { all = omega arith; order = omega arith; most = omega arith },
+        o .found n,
+        λ k l w. ⊎-elim (λ b. absurd (omega (arith, w .all))) (λ (_, b). h .each k l w b),
+      );
+      none = λ e. absurd (n e);
+    }
 
 -- ---- the lengths of less than s in all
 pub record TotalsTo (v u : View) (z ea eb : List ℕ) (x y c s : ℕ) : Type 0 where
@@ -61,13 +62,10 @@ module _ (v u : View) (z ea eb : List ℕ) (x y c : ℕ) where
   totals-start = record { each = λ k l w m. absurd (omega arith) }
 
   -- nothing fails at all
-  pub totals-none : (r : Pair) → r .kind ≡ 0 → NoneFails v u z ea eb x y c → Fewest v u z ea eb x y c r
+  pub totals-none : (r : Pair) → r .kind ≡ 0 → NoneFails v u z ea eb x y c → Outcome v u z ea eb x y (Most c) r
   totals-none r d h = record {
-    outcome = record {
-      found = λ n. absurd (n d);
-      none = λ _ k l w. record { each = λ p q tp lp tq lq. h .each p q tp (omega (arith, w .order, w .most)) tq (omega (arith, w .most)) };
-    };
-    fewest = λ n. absurd (n d);
+    found = λ n. absurd (n d);
+    none = λ _ k l w. record { each = λ p q tp lp tq lq. h .each p q tp (omega (arith, w .order, w .most)) tq (omega (arith, w .most)) };
   }
 
   module _ (s : ℕ) (h : TotalsTo v u z ea eb x y c s) (r : Pair) where
@@ -79,16 +77,21 @@ module _ (v u : View) (z ea eb : List ℕ) (x y c : ℕ) where
           (eq-or-lt-of-le (under (k + l) s m));
     }
 
-    pub totals-end : c + c < s → r .kind ≡ 0 → Fewest v u z ea eb x y c r
-    totals-end g d = record {
-      outcome = record { found = λ n. absurd (n d); none = λ _ k l w. h .each k l w (omega (arith, w .order, w .most)) };
-      fewest = λ n. absurd (n d);
-    }
+    pub totals-end : c + c < s → r .kind ≡ 0 → Outcome v u z ea eb x y (Most c) r
+    totals-end g d = record { found = λ n. absurd (n d); none = λ _ k l w. h .each k l w (omega (arith, w .order, w .most)) }
 
-    pub totals-found : Outcome v u z ea eb x y (Total c s) r → (r .kind ≡ 0 → ⊥) → Fewest v u z ea eb x y c r
+    pub totals-found : Outcome v u z ea eb x y (Total c s) r → (r .kind ≡ 0 → ⊥) → Outcome v u z ea eb x y (Most c) r
     totals-found o n =
-        let (i, j, w, f) = o .found n in
+        let (i, j, w, f, b) = o .found n in
         record {
-          outcome = record { found = λ _. (i, j, record { order = w .order; most = w .most }, f); none = λ e. absurd (n e) };
-          fewest = λ _ k l m b. h .each k l m (omega (arith, f .first .0 .long, f .second .0 .long, w .all));
+          found = λ _. (
+            i,
+            j,
+            record { order = w .order; most = w .most },
+            f,
+            λ k l m. ⊎-elim
+                (λ e. h .each k l m (omega (arith, w .all)))
+                (λ (e, q). b k l (record { all = e ∙ w .all; order = m .order; most = m .most }) (inr (e, q))),
+          );
+          none = λ e. absurd (n e);
         }

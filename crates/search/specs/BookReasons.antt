@@ -29,10 +29,10 @@ pub record Read (s fs ls ts starts ends : List ℕ) : Type 0 where
   pub rows : Paired (passing s same) (passing s differ) ends
 
 -- a comparison of data values is the same from both sides
-pub compared-even : (value : ℕ → ℕ) (t : Comparison) (x y : ℕ) → compared value t x y ≡ true → compared value t y x ≡ true
+pub compared-symmetric : (value : ℕ → ℕ) (t : Comparison) (x y : ℕ) → compared value t x y ≡ true → compared value t y x ≡ true
 unfolding compared
-compared-even value same x y e = eqb-turn (value y) (value x) ∙ e
-compared-even value differ x y e = ap not (eqb-turn (value y) (value x)) ∙ e
+compared-symmetric value same x y e = eqb-turn (value y) (value x) ∙ e
+compared-symmetric value differ x y e = ap not (eqb-turn (value y) (value x)) ∙ e
 
 module _ (s fs ls ts starts ends : List ℕ) (d : Read s fs ls ts starts ends) where
   -- row x of a comparison, in the table
@@ -51,7 +51,7 @@ module _ (s fs ls ts starts ends : List ℕ) (d : Read s fs ls ts starts ends) w
     rows = λ t x y lx ly.
         ap (λ (w : ℕ). bit w y) (row-is t x (cell-few s x (d .accepted) lx) ∙ passing-rows s t (d .accepted) .row x lx)
         ∙ bit-wordOf-lt (cellsOf s) (graphOf s .ends t x) y ly;
-    even = compared-even _;
+    symmetric = compared-symmetric _;
   }
 
 -- two books, a cell of each, and a relation that the rows hold

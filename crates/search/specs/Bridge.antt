@@ -20,7 +20,7 @@ use Rattle.theory.specs.Bisimulation.{Relation}
 use Rattle.theory.specs.Rounds.{follow, met}
 use Rattle.theory.specs.Follow.{follow-below}
 use Rattle.words.specs.Words.{bit}
-use Rattle.words.specs.Laws.{bit-and, bit-pow, zero-iff}
+use Rattle.words.specs.Laws.{bit-and, bit-pow}
 use Rattle.edges.specs.Edges.{meets}
 use Rattle.edges.specs.Laws.{meets-zero}
 use Rattle.hops.specs.Hops.{View, startOf, labelOf, toOf, hopAt, hopsOf}
@@ -78,21 +78,9 @@ module _ (v : View) where
         (j ∷ u, (o, n), (cc))
 
 -- ---- words
-pub test-off : (b : Bool) → (So b → ⊥) → b ≡ false
-test-off true f = absurd (f refl)
-test-off false f = refl
-
 -- the relation of rows of words
 abbrev pub relationOf : List ℕ → Relation
 relationOf rows a b = bit (getD rows a 0) b
-
--- a word that is not 0 has a node
-pub some-node : (w : ℕ) → w < 2 ^ 64 → (w ≡ 0 → ⊥) → (y : ℕ) × (y < 64) × So (bit w y)
-some-node w l n = by (any 64 (bit w)) refl
-  where
-    by : (e : Bool) → any 64 (bit w) ≡ e → (y : ℕ) × (y < 64) × So (bit w y)
-    by true h = any-iff 64 (bit w) .0 h
-    by false h = absurd (n (zero-iff 64 w l .1 (λ i m. test-off (bit w i) (λ e. false≢true (sym h ∙ any-iff 64 (bit w) .1 (i, m, e))))))
 
 -- words without a common node
 apart-iff : (a b : ℕ) → a < 2 ^ 64 → eqb (bitAnd a b) 0 ≡ not (meets a b)

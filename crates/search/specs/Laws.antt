@@ -1,10 +1,11 @@
 -- What a caller of the search cites, in exit form: every number that the code has is a variable. Assumes nothing.
 use mathlib.Core.Bool.{true}
-use mathlib.Core.Path.{_≡_, refl, ap, _∙_}
+use mathlib.Core.Path.{_≡_, refl, sym, ap, _∙_}
 use mathlib.Core.List.{List, [], _∷_}
 use Prim.Native.Nat.{ℕ, zero, suc, _≤_, _<_}
 use native.Mathlib.Nat.{not-suc-le-zero, le-of-suc-le-suc}
 use native.Mathlib.Omega.{arith}
+use borrow.Author.Tests.{eq-eqb, ne-eqb}
 use lib.ListN.{length, getD, take}
 use lib.Seq.{getD-take, length-take-le}
 use Rattle.theory.specs.Graph.{same, differ, Graph}
@@ -12,21 +13,34 @@ use Rattle.theory.specs.Path.{Hop}
 use Rattle.theory.specs.Bisimulation.{Relation}
 use Rattle.theory.specs.Rounds.{zigs}
 use Rattle.theory.specs.Parting.{byLink, byPaths, Fails}
+use Rattle.theory.specs.Choosing.{none, some, chosen, chosen-fails, chosen-none}
 use Rattle.hops.specs.Hops.{View, hopAt}
 use Rattle.classes.specs.Paths.{pathOf}
 use Rattle.search.specs.declared.Steps.{Steps}
 use Rattle.search.specs.declared.Reason.{Reason}
 use Rattle.search.specs.Bridge.{path-length}
-use Rattle.search.specs.Reasons.{Posed, pathIn, reasonOf, Numbered, Answered}
+use Rattle.search.specs.Reasons.{Posed, pathIn, reasonOf, choiceOf, Numbered, Answered}
 
 -- ---- the answer, of two graphs and a relation that the lists show
 module _ (l r : Graph) (z : Relation) (v u : View) (rows ea eb : List ℕ) (a b c : ℕ) (s : Reason) (w : Answered v u rows ea eb a b c s)
     (d : Posed l r z v u rows ea eb a b) where
-  pub answer-fails : (s .kind ≡ 0 → ⊥) → Fails l r c z a b (reasonOf v s)
-  answer-fails n = w .fails l r z d n
+  -- a reason is the one that the theory chooses
+  pub answer-some : (s .kind ≡ 0 → ⊥) → chosen l r c z a b ≡ some (reasonOf v s)
+  unfolding choiceOf
+  answer-some n = sym (w .is l r z d) ∙ rw (ne-eqb (s .kind) 0 n)
 
+  -- it fails
+  pub answer-fails : (s .kind ≡ 0 → ⊥) → Fails l r c z a b (reasonOf v s)
+  answer-fails n = chosen-fails l r z a b c (reasonOf v s) (answer-some n)
+
+  -- where there is none, it chooses none
+  pub answer-chosen-none : s .kind ≡ 0 → chosen l r c z a b ≡ none
+  unfolding choiceOf
+  answer-chosen-none e = sym (w .is l r z d) ∙ rw (eq-eqb (s .kind) 0 e)
+
+  -- and the clauses hold from left to right
   pub answer-none : s .kind ≡ 0 → zigs l r c z a b ≡ true
-  answer-none e = w .none l r z d e
+  answer-none e = chosen-none l r z a b c (d .left .symmetric) (d .right .symmetric) .0 (answer-chosen-none e)
 
 -- ---- the reason of each kind
 module _ (v : View) (s : Reason) where

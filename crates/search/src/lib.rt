@@ -3,7 +3,7 @@
 ghost use mathlib.Core.Path.{_≡_};
 ghost use Prim.Native.Nat.{_+_, _≤_};
 ghost use Rattle.hops.specs.Hops.{viewOf};
-ghost use Rattle.search.specs.Lengths.{Ready, Outcome, Total, Fewest, Single};
+ghost use Rattle.search.specs.Lengths.{Ready, Outcome, Total, Most, Single};
 ghost use Rattle.search.specs.Reasons.{stepsOf, Answered};
 use routes::Pair;
 use routes::Route;
@@ -30,22 +30,7 @@ fn steps_of(w: Route) -> Steps
     Steps { len: w.len, links }
 }
 
-// No two paths.
-fn no_pair() -> Pair
-    ensures { λ r. ⌜ r .kind ≡ 0 ⌝ }
-{
-    let w = Route {
-        len: 0,
-        links: [0u16; 4],
-    };
-    Pair {
-        kind: 0,
-        first: w,
-        second: w,
-    }
-}
-
-// Two paths of s links in all, the first no longer than the second, neither longer than c.
+// The first two paths of s links in all, the first no longer than the second, neither longer than c: those with the shortest first path.
 fn by_lengths(
     sa: &[u16; 65],
     la: &[u16; 512],
@@ -75,10 +60,10 @@ fn by_lengths(
         }
         i += 1;
     }
-    no_pair()
+    routes::no_pair()
 }
 
-// Two paths of at most c links each, fewest in all first. Those of less than 3 links in all are soon looked through; before the others, one
+// The first two paths of at most c links each, fewest in all first. Those of less than 3 links in all are soon looked through; before the others, one
 // table may tell that there are none.
 fn by_total(
     sa: &[u16; 65],
@@ -95,13 +80,13 @@ fn by_total(
     c: u8,
 ) -> Pair
     requires { ⌜ Ready (now sa) (now ta) (now sb) (now tb) x y × (c ≤ 4) ⌝ }
-    ensures { λ r. ⌜ Fewest (viewOf (now (sa .entry)) (now (la .entry)) (now (ta .entry))) (viewOf (now (sb .entry)) (now (lb .entry)) (now (tb .entry))) (now (z .entry)) (now (ea .entry)) (now (eb .entry)) x y c r ⌝ }
+    ensures { λ r. ⌜ Outcome (viewOf (now (sa .entry)) (now (la .entry)) (now (ta .entry))) (viewOf (now (sb .entry)) (now (lb .entry)) (now (tb .entry))) (now (z .entry)) (now (ea .entry)) (now (eb .entry)) x y (Most c) r ⌝ }
 {
     let mut s = 0u8;
     while s <= c + c {
         if s == 3 {
             if covering::none_fails(sa, la, ta, ea, sb, lb, tb, eb, z, x, y, c) {
-                return no_pair();
+                return routes::no_pair();
             }
         }
         let r = by_lengths(sa, la, ta, ea, sb, lb, tb, eb, z, x, y, c, s);
@@ -110,7 +95,7 @@ fn by_total(
         }
         s += 1;
     }
-    no_pair()
+    routes::no_pair()
 }
 
 // The first link out of x that has no counterpart from y, or where the links out of x end.
@@ -140,8 +125,8 @@ fn one_link(
     until
 }
 
-// The reason to part x and y, from x's side, under the relation z: row i of z has the cells related to cell i. First a link without
-// counterpart; else two paths of at most c links each, with fewest links in all; or none, and then x owes nothing to y.
+// The reason to part x and y, from x's side, under the relation z: row i of z has the cells related to cell i. The first link without
+// counterpart; else the first two paths of at most c links each, with fewest links in all; or none, and then the clauses hold from x's side.
 pub fn reason_for(
     sa: &[u16; 65],
     la: &[u16; 512],

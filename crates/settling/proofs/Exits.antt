@@ -19,11 +19,12 @@ use Rattle.hops.specs.Hops.{viewOf}
 use Rattle.search.specs.Lengths.{Ready}
 use Rattle.search.specs.Reasons.{Posed, Answered, reasonOf}
 use Rattle.search.specs.BookReasons.{read-ready, read-posed}
-use Rattle.search.specs.Laws.{answer-fails, answer-none}
+use Rattle.search.specs.Laws.{answer-some, answer-fails, answer-chosen-none, answer-none}
 use Rattle.search.specs.declared.Reason.{Reason}
-use Rattle.refinement.specs.Entries.{reasonEntry}
 use Rattle.refinement.specs.Places.{place-below}
-use Rattle.refinement.specs.Refining.{State, Cause, Caused, write, part}
+use Rattle.refinement.specs.Comparison.{owed, verdict, State, Cause, write, part, reasonEntry}
+use Rattle.refinement.specs.Refining.{Caused}
+use Rattle.refinement.specs.Steps.{verdict-left, verdict-right}
 use Rattle.refinement.specs.Exits.{few-exit, room-exit, stays-exit, part-exit, state-ext}
 use Rattle.describing.specs.Describing.{Roomy}
 use Rattle.describing.specs.declared.Pen.{Pen}
@@ -95,7 +96,8 @@ module _ (left right sa la ta ea sb lb tb eb : List ℕ) (c start place : ℕ) (
 
   -- ---- a pair that is parted, by any cause
   module _ (room′ : List ℕ) (pen′ : Pen) (map′ nl′ nr′ : List ℕ) (e : Entry) (d : Bool) (t : Parts room room′ pen pen′ map map′ place nl nl′ nr nr′ a b e d)
-      (why : Cause) (f : Caused (graphOf left) (graphOf right) c z a b why) (is : parted (cellsOf right) a b e d now ≡ part (cellsOf right) a b why now) where
+      (why : Cause) (f : Caused (graphOf left) (graphOf right) c z a b why)
+      (v : verdict twoSided (graphOf left) (graphOf right) c z a b ≡ owed why) (is : parted (cellsOf right) a b e d now ≡ part (cellsOf right) a b why now) where
     after-part : Shows room′ pen′ map′ nl′ nr′ (parted (cellsOf right) a b e d now)
     after-part = t .next (cellsOf right) now (at .is) (record { entries = st .penned; places = refl; newLeft = refl; newRight = refl })
 
@@ -115,7 +117,7 @@ module _ (left right sa la ta ea sb lb tb eb : List ℕ) (c start place : ℕ) (
             entries = parted (cellsOf right) a b e d now .entries;
             penned = after-part .entries;
             refined = part-exit a b (cellsOf left) (cellsOf right) place z formed formed′ refl refl (at .is) (at .leftCell) (at .rightCell) refl (st .refined)
-                (getD map place 0) why next (books .leftNarrow) (books .rightNarrow) (books .bound) refl (at .zero) f next-is;
+                (getD map place 0) why next (books .leftNarrow) (books .rightNarrow) (books .bound) refl (at .zero) f v next-is;
             ahead = st .ahead;
             back = st .back;
             leftWide = t .leftWide ∙ st .leftWide;
@@ -136,6 +138,7 @@ module _ (left right sa la ta ea sb lb tb eb : List ℕ) (c start place : ℕ) (
     ahead-settled room′ pen′ map′ nl′ nr′ n t =
         parted-settled room′ pen′ map′ nl′ nr′ _ true t (Cause.ahead (reasonOf (viewOf sa la ta) why))
         (answer-fails _ _ z (viewOf sa la ta) (viewOf sb lb tb) rows ea eb a b c why w ahead-posed n)
+        (verdict-left _ _ c z a b _ twoSided (answer-some _ _ z (viewOf sa la ta) (viewOf sb lb tb) rows ea eb a b c why w ahead-posed n))
         (parted-ahead (cellsOf right) a b sa la ta why now ol refl)
 
     module _ (none : why .kind ≡ 0) (why′ : Reason) (w′ : Answered (viewOf sb lb tb) (viewOf sa la ta) columns eb ea b a c why′) where
@@ -148,6 +151,8 @@ module _ (left right sa la ta ea sb lb tb eb : List ℕ) (c start place : ℕ) (
       back-settled room′ pen′ map′ nl′ nr′ n t =
           parted-settled room′ pen′ map′ nl′ nr′ _ false t (Cause.back (reasonOf (viewOf sb lb tb) why′))
           (answer-fails _ _ (flip z) (viewOf sb lb tb) (viewOf sa la ta) columns eb ea b a c why′ w′ back-posed n)
+          (verdict-right _ _ c z a b _ (answer-chosen-none _ _ z (viewOf sa la ta) (viewOf sb lb tb) rows ea eb a b c why w ahead-posed none)
+          (answer-some _ _ (flip z) (viewOf sb lb tb) (viewOf sa la ta) columns eb ea b a c why′ w′ back-posed n))
           (parted-back (cellsOf right) a b sb lb tb why′ now or refl)
 
       pub stays-settled : why′ .kind ≡ 0 → Settled left right c start place rows columns ol or room room pen pen map nl nr

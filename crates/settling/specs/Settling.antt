@@ -11,7 +11,8 @@ use Rattle.book.specs.BookGraph.{graphOf}
 use Rattle.sheet.specs.Entry.{Entry}
 use Rattle.search.specs.BookReasons.{Read}
 use Rattle.refinement.specs.Entries.{Narrow}
-use Rattle.refinement.specs.Refining.{State, Refined}
+use Rattle.refinement.specs.Comparison.{State}
+use Rattle.refinement.specs.Refining.{Refined}
 use Rattle.relation.specs.Relation.{Tells}
 use Rattle.describing.specs.Describing.{Penned}
 use Rattle.describing.specs.declared.Pen.{Pen}

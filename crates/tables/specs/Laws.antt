@@ -42,26 +42,26 @@ pub covered-trans : (ls rs : List ℕ) (n : ℕ) (ls′ rs′ : List ℕ) (n′ 
     → (x w : ℕ) → Covered ls rs n x w → Covered ls′ rs′ n′ x w
 covered-trans ls rs n ls′ rs′ n′ f x w c = covered-wider ls′ rs′ n′ x (c .word) w (f x (c .word) (c .has)) (c .inside)
 
--- the table with the one tip (x, {y}) has that tip and no other
-module _ (ls rs : List ℕ) (x y a b : ℕ) (da : a ≡ 2 ^ x) (db : b ≡ 2 ^ y) where
-  left-is : length ls ≡ 128 → getD (set ls 0 a) 0 0 ≡ 2 ^ x
-  left-is ll = getD-set-same ls 0 a 0 (omega arith) ∙ da
+-- the table with the one tip (x, w) has that tip and no other
+module _ (ls rs : List ℕ) (x w a b : ℕ) (da : a ≡ 2 ^ x) (db : b ≡ w) (ll : length ls ≡ 128) (lr : length rs ≡ 128) where
+  left-is : getD (set ls 0 a) 0 0 ≡ 2 ^ x
+  left-is = getD-set-same ls 0 a 0 (omega arith) ∙ da
 
-  right-is : length rs ≡ 128 → getD (set rs 0 b) 0 0 ≡ 2 ^ y
-  right-is lr = getD-set-same rs 0 b 0 (omega arith) ∙ db
+  right-is : getD (set rs 0 b) 0 0 ≡ w
+  right-is = getD-set-same rs 0 b 0 (omega arith) ∙ db
 
-  pub one-has : x < 64 → length ls ≡ 128 → length rs ≡ 128 → Has (set ls 0 a) (set rs 0 b) 1 x (2 ^ y)
-  one-has low ll lr = record {
+  pub one-has : x < 64 → Has (set ls 0 a) (set rs 0 b) 1 x w
+  one-has low = record {
     class = 0;
     below = omega arith;
     cell = low;
-    inside = ap (λ (w : ℕ). bit w x) (left-is ll) ∙ bit-pow x x ∙ eq-eqb x x refl;
-    word = right-is lr;
+    inside = ap (λ (w : ℕ). bit w x) left-is ∙ bit-pow x x ∙ eq-eqb x x refl;
+    word = right-is;
   }
 
-  pub one-only : length ls ≡ 128 → length rs ≡ 128 → (x′ w : ℕ) → Has (set ls 0 a) (set rs 0 b) 1 x′ w → (x′ ≡ x) × (w ≡ 2 ^ y)
-  one-only ll lr x′ w h =
+  pub one-only : (x′ w′ : ℕ) → Has (set ls 0 a) (set rs 0 b) 1 x′ w′ → (x′ ≡ x) × (w′ ≡ w)
+  one-only x′ w′ h =
       let z : h .class ≡ 0 = omega (arith, h .below) in (
-        sym (eqb-true x x′ (sym (bit-pow x x′) ∙ ap (λ (v : ℕ). bit v x′) (sym (left-is ll)) ∙ rw z at (h .inside))),
-        sym (rw z at (h .word)) ∙ right-is lr,
+        sym (eqb-true x x′ (sym (bit-pow x x′) ∙ ap (λ (v : ℕ). bit v x′) (sym left-is) ∙ rw z at (h .inside))),
+        sym (rw z at (h .word)) ∙ right-is,
       )

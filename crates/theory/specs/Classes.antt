@@ -49,13 +49,13 @@ Reached l r c z a b k = (x : ℕ) → So (k .nodes x) → (p : Path) × (end a p
 unfoldable pub passes : Graph → Comparison → (ℕ → Bool) → (ℕ → Bool) → Bool
 passes g t w w′ = any (g .size) (λ y. w y && any (g .size) (λ y′. w′ y′ && g .ends t y y′))
 
--- A chosen path from a covers p.
+-- A kept path from a covers p.
 abbrev pub Covered : Graph → Graph → Relation → ℕ → ℕ → (Path → Type 0) → Path → Type 0
-Covered l r z a b Chosen p = (p′ : Path) × Chosen p′ × Walk l a p′ × Covers r z a b p′ p
+Covered l r z a b Kept p = (p′ : Path) × Kept p′ × Walk l a p′ × Covers r z a b p′ p
 
--- Chosen paths cover every path from a of at most c links.
-pub record Enough (l r : Graph) (c : ℕ) (z : Relation) (a b : ℕ) (Chosen : Path → Type 0) : Type 0 where
-  pub each : (p : Path) → Walk l a p → length p ≤ c → Covered l r z a b Chosen p
+-- Kept paths cover every path from a of at most c links.
+pub record Enough (l r : Graph) (c : ℕ) (z : Relation) (a b : ℕ) (Kept : Path → Type 0) : Type 0 where
+  pub each : (p : Path) → Walk l a p → length p ≤ c → Covered l r z a b Kept p
 
 -- The tip of a path that goes on depends on no more than the tip so far: its end by `end-append`, its set by this.
 pub follow-append : (r : Graph) (z : Relation) (b : ℕ) → b < r .size → (p s : Path) → follow r z (p ++ s) b ≡ followFrom r z s (follow r z p b)
@@ -122,35 +122,35 @@ module _ {r : Graph} {z : Relation} {a b : ℕ} where
     shorter = omega (arith, length-append p s, length-append p′ s, h .shorter);
   }
 
-module _ {l r : Graph} {c : ℕ} {z : Relation} {a b : ℕ} {Chosen : Path → Type 0} where
-  -- Where two paths fail, two chosen ones do, with no more links in all.
-  pub chosen-fewest : Enough l r c z a b Chosen → (t : Comparison) (p q : Path) → PathsFail l r c z a b t p q
-      → (p′ : Path) × (q′ : Path) × Chosen p′ × Chosen q′ × PathsFail l r c z a b t p′ q′ × (length p′ + length q′ ≤ length p + length q)
-  chosen-fewest n t p q f =
+module _ {l r : Graph} {c : ℕ} {z : Relation} {a b : ℕ} {Kept : Path → Type 0} where
+  -- Where two paths fail, two kept ones do, with no more links in all.
+  pub kept-fewest : Enough l r c z a b Kept → (t : Comparison) (p q : Path) → PathsFail l r c z a b t p q
+      → (p′ : Path) × (q′ : Path) × Kept p′ × Kept q′ × PathsFail l r c z a b t p′ q′ × (length p′ + length q′ ≤ length p + length q)
+  kept-fewest n t p q f =
       let (p′, i, w, h) = n .each p (f .walk) (f .short) in
       let (q′, j, v, k) = n .each q (f .walk′) (f .short′) in
       let (g, m) = covers-fails h k w v f in
       (p′, q′, i, j, g, m)
 
-  -- So the clause for two paths holds exactly when no two chosen ones fail.
-  pub chosen-enough : Enough l r c z a b Chosen
-      → So (twoPaths l r c z a b) ↔ ((t : Comparison) (p q : Path) → Chosen p → Chosen q → PathsFail l r c z a b t p q → ⊥)
+  -- So the clause for two paths holds exactly when no two kept ones fail.
+  pub kept-enough : Enough l r c z a b Kept
+      → So (twoPaths l r c z a b) ↔ ((t : Comparison) (p q : Path) → Kept p → Kept q → PathsFail l r c z a b t p q → ⊥)
   unfolding twoPaths
-  chosen-enough n = simp (every-iff, if-iff, paths-iff) (
+  kept-enough n = simp (every-iff, if-iff, paths-iff) (
     λ f t p q _ _ g. false≢true (sym (g .missing) ∙ f p (g .walk, g .short) q (g .walk′, g .short′) t (listed t) (g .ends)),
     λ f p (w, s) q (w′, s′) t _ e. not-eq-not .0 (λ m.
-        let (p′, q′, i, j, g, _) = chosen-fewest n t p q (record { short = s; short′ = s′; walk = w; walk′ = w′; ends = e; missing = m }) in
+        let (p′, q′, i, j, g, _) = kept-fewest n t p q (record { short = s; short′ = s′; walk = w; walk′ = w′; ends = e; missing = m }) in
         f t p′ q′ i j g),
   )
 
-  -- Chosen paths, the empty one among them, that cover every path of at most c links that is one of them and one link more, cover all.
-  pub levels-cover : Chosen []
-      → ((p : Path) (h : Hop) → Chosen p → Walk l a (p ++ (h ∷ [])) → length p < c → Covered l r z a b Chosen (p ++ (h ∷ [])))
-      → Enough l r c z a b Chosen
+  -- Kept paths, the empty one among them, that cover every path of at most c links that is one of them and one link more, cover all.
+  pub levels-cover : Kept []
+      → ((p : Path) (h : Hop) → Kept p → Walk l a (p ++ (h ∷ [])) → length p < c → Covered l r z a b Kept (p ++ (h ∷ [])))
+      → Enough l r c z a b Kept
   unfolding Walk end
   levels-cover start onward = record { each = λ p w m. from p [] start tt w (omega arith) }
     where
-      from : (s p : Path) → Chosen p → Walk l a p → Walk l (end a p) s → length p + length s ≤ c → Covered l r z a b Chosen (p ++ s)
+      from : (s p : Path) → Kept p → Walk l a p → Walk l (end a p) s → length p + length s ≤ c → Covered l r z a b Kept (p ++ s)
       from [] p i w v m = (p, i, w, rw append-nil (covers-refl p))
       from (h ∷ s) p i w (e, v) m =
           let (p′, j, w′, k) = onward p h i (walk-append l a p (h ∷ []) w (e, tt)) (omega arith) in

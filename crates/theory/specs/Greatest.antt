@@ -170,7 +170,7 @@ module _ (s : Sides) {l r : Graph} (c : ℕ) (wl : WellFormed l) (wr : WellForme
   unfolding settled rounds
   last = settles-by (rounds s l r c) (count (l .size) (r .size)) down (round s l r c) (λ k. refl) (l .size * r .size) most
 
-  fixed : round s l r c (settled s l r c) ≡ settled s l r c
+  pub fixed : round s l r c (settled s l r c) ≡ settled s l r c
   unfolding settled rounds
   fixed = last (suc (l .size * r .size)) (omega arith)
 

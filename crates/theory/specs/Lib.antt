@@ -20,5 +20,6 @@ pub mod Parting
 pub mod Describing
 pub mod Rows
 pub mod Classes
+pub mod Choosing
 pub mod Examples
 pub mod Theorems

@@ -64,7 +64,7 @@ module _ (h : Hop) (q : Path) where
       simp (cons-iff, sum-iff, onto-iff k ps)
       (⊎-elim (λ e. ((cc), inl (cc))) (λ t. (t .0, inr (t .1))), λ t. ⊎-elim (λ e. inl (ap₂ _∷_ (t .0) e)) (λ m. inr (t .0, m)) (t .1))
 
-  onward-iff : (f : ℕ → List Path) (hs : List Hop) → List·Memᴰ (h ∷ q) (onward f hs) ↔ (List·Memᴰ h hs × List·Memᴰ q (f (h .to)))
+  pub onward-iff : (f : ℕ → List Path) (hs : List Hop) → List·Memᴰ (h ∷ q) (onward f hs) ↔ (List·Memᴰ h hs × List·Memᴰ q (f (h .to)))
   unfolding onward
   onward-iff f [] = (λ m. absurd (List·Memᴰ·not-nil m), λ t. absurd (List·Memᴰ·not-nil (t .0)))
   onward-iff f (k ∷ hs) =

@@ -11,7 +11,7 @@ use Rattle.book.specs.Book.{cellsOf}
 use Rattle.book.specs.BookGraph.{graphOf}
 use Rattle.book.specs.Accepted.{book-sizes, book-graph}
 use Rattle.refinement.specs.Places.{nonzeros-most}
-use Rattle.refinement.specs.Refining.{turned}
+use Rattle.refinement.specs.Comparison.{turned}
 use Rattle.refinement.specs.Exits.{turned-exit, still-exit}
 use Rattle.relation.specs.Relation.{Mapped, rowsOf, columnsOf, Tells}
 use Rattle.relation.specs.Laws.{rows-begin, columns-tell}

@@ -2,7 +2,6 @@
 use Prim.Native.Nat.{_-_, _≤_}
 use native.Mathlib.Omega.{arith}
 use borrow.Author.Needs.{needs}
-use borrow.Author.Tests.{eqb-true}
 use mathlib.Core.Path.{refl}
 use Rattle.hops.specs.Hops.{viewOf}
 use Rattle.routes.specs.Pairs.{Asked}
@@ -42,7 +41,7 @@ two-tips-requires : tie.Need-two-tips-requires Inv-loop μ-loop
 two-tips-requires c κs = search needs
 
 returns : tie.Need-returns Inv-loop μ-loop
-returns c = λ e. reached-none _ _ _ _ _ _ _ _ _ (c .before .before .before .before .before .before .before .loop .inv .3) _ (c .before .before .before .before .before .before .loop-test .left) _ _ _ (c .before .two-tips .ensures) (eqb-true _ 0 e)
+returns c = λ e. reached-none _ _ _ _ _ _ _ _ _ (c .before .before .before .before .before .before .loop .inv .3) _ (c .before .before .before .before .before .loop-test .left) _ _ _ (c .two-tips .ensures) e
 
 pub by-cells-spec : {M : Type 1} → statement M
 by-cells-spec =

@@ -3,7 +3,6 @@ use mathlib.Core.Bool.{false≢true}
 use Prim.Native.Nat.{_-_, _≤_}
 use native.Mathlib.Omega.{arith}
 use borrow.Author.Needs.{needs}
-use borrow.Author.Tests.{eqb-true}
 use Rattle.hops.specs.Hops.{viewOf}
 use Rattle.classes.specs.Tables.{Named}
 use Rattle.routes.specs.Pairs.{Asked}
@@ -57,7 +56,7 @@ two-tips-requires : tie.Need-two-tips-requires Inv-loop μ-loop
 two-tips-requires c κs = search needs
 
 returns-2 : tie.Need-returns-2 Inv-loop μ-loop
-returns-2 c = λ e. reached-none _ _ _ _ _ _ _ _ _ (c .before .before .before .before .before .before .before .loop .inv .3) _ (c .before .before .before .before .before .before .loop-test .left) _ _ _ (c .before .two-tips .ensures) (eqb-true _ 0 e)
+returns-2 c = λ e. reached-none _ _ _ _ _ _ _ _ _ (c .before .before .before .before .before .before .loop .inv .3) _ (c .before .before .before .before .before .loop-test .left) _ _ _ (c .two-tips .ensures) e
 
 pub by-classes-spec : {M : Type 1} → statement M
 by-classes-spec =

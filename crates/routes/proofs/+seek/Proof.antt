@@ -7,17 +7,13 @@ use Prim.Native.Nat.{ℕ, _-_, _*_, _≤_, _<_}
 use Rattle.hops.specs.Hops.{viewOf}
 use Rattle.tables.specs.Tips.{Room}
 use Rattle.routes.specs.Tails.{Seeking}
-use Rattle.routes.proofs.Loops.{weight, turn-less, link-less, tips-searched, turn-searched, ClearedTo, cleared-start, cleared-next, cleared-end, tail-low, tail-beyond, tail-short, pair-found}
+use Rattle.routes.proofs.Loops.{weight, turn-less, link-less, tips-searched, turn-searched, Below, below-start, below-next, below-end, below-found}
 use borrow.Fn.Kinds.{In}
 use borrow.Fn.PlainCycle.{Measures, is, falls, and}
 use Rattle.routes.proofs.seek.Reads as seek
 use Rattle.routes.proofs.seek.Kinds as seek-kinds
 use Rattle.routes.proofs.+seek.Lts-seek as seek-lts
-use Rattle.classes.proofs.back.Reads as back-reads
 use Rattle.classes.proofs.fill.Reads as fill-reads
-use Rattle.routes.proofs.behind.Reads as behind-reads
-use Rattle.routes.proofs.exchanged.Reads as exchanged-reads
-use Rattle.routes.proofs.nothing.Reads as nothing-reads
 use Rattle.routes.proofs.two_tips.Reads as two-tips-reads
 use Rattle.routes.proofs.+seek.{statement}
 use Rattle.routes.proofs.+seek.Tie.{close}
@@ -33,10 +29,10 @@ seek-below t = and 14 seek-kinds.ps (falls 14 seek-kinds.ps _<_ μ-seek t) seek.
 
 -- what the functions that it calls ask and promise
 abbrev given : ℕ → seek-lts.Claims
-given t = (two-tips-reads.Asked, two-tips-reads.Learnt, exchanged-reads.Asked, exchanged-reads.Learnt, seek-below t, seek.Post, fill-reads.Asked, fill-reads.Learnt, back-reads.Asked, back-reads.Learnt, behind-reads.Asked, behind-reads.Learnt, nothing-reads.Asked, nothing-reads.Learnt)
+given t = (two-tips-reads.Asked, two-tips-reads.Learnt, seek-below t, seek.Post, fill-reads.Asked, fill-reads.Learnt)
 
 abbrev seek-Inv-loop : seek-lts.InvT-loop
-seek-Inv-loop sa la ta ea sb lb tb eb z labels many pl pr pn more ql qr qn rest turned l₀ r₀ at₀ l r at = Seeking sa la ta sb tb labels many pn qn × (more ≤ 4) × (rest ≤ 4) × (turned ≡ true → rest ≡ 0) × (more ≡ 0 → ⊥) × (at ≤ 128 * many) × Room l r 0 × ClearedTo (viewOf sa la ta) (viewOf sb lb tb) z ea eb turned pl pr pn ql qr qn rest labels many (more - 1) at
+seek-Inv-loop sa la ta ea sb lb tb eb z labels many pl pr pn more ql qr qn rest turned l₀ r₀ at₀ l r at = Seeking sa la ta sb tb labels many pn qn × (more ≤ 4) × (rest ≤ 4) × (turned ≡ true → rest ≡ 0) × (more ≡ 0 → ⊥) × (at ≤ 128 * many) × Room l r 0 × Below (viewOf sa la ta) (viewOf sb lb tb) z ea eb turned ql qr qn rest labels many pl pr pn (more - 1) at
 
 abbrev seek-μ-loop : seek-lts.MeasureT-loop
 seek-μ-loop sa la ta ea sb lb tb eb z labels many pl pr pn more ql qr qn rest turned l₀ r₀ at₀ l r at = 128 * many - at
@@ -44,23 +40,17 @@ seek-μ-loop sa la ta ea sb lb tb eb z labels many pl pr pn more ql qr qn rest t
 seek-two-tips-requires : (t : ℕ) → seek-lts.Need-two-tips-requires (given t) (seek-at t) seek.Post seek-Inv-loop seek-μ-loop
 seek-two-tips-requires t c κs = search needs
 
-seek-exchanged-requires : (t : ℕ) → seek-lts.Need-exchanged-requires (given t) (seek-at t) seek.Post seek-Inv-loop seek-μ-loop
-seek-exchanged-requires t c κs = search needs
-
 seek-returns : (t : ℕ) → seek-lts.Need-returns (given t) (seek-at t) seek.Post seek-Inv-loop seek-μ-loop
-seek-returns t c = tips-searched _ _ _ _ _ _ _ _ _ _ _ _ (c .before .two-tips .ensures) _ (c .before .before .if2 .taken) _ _ (c .before .before .before .if1 .taken) (c .before .before .before .before .pre .1 .3 (c .before .before .if2 .taken)) _ (c .exchanged .ensures)
+seek-returns t c = tips-searched _ _ _ _ _ _ _ _ _ _ _ _ (c .two-tips .ensures) _ (c .before .if2 .taken) _ _ (c .before .before .if1 .taken) (c .before .before .before .pre .1 .3 (c .before .if2 .taken))
 
 seek-seek-requires : (t : ℕ) → seek-lts.Need-seek-requires (given t) (seek-at t) seek.Post seek-Inv-loop seek-μ-loop
 seek-seek-requires t c κs = (turn-less _ _ _ _ (c .before .before .pre .0) (c .if2 .left), (record { left = search needs; right = search needs; named = search needs; firsts = search needs; seconds = search needs }, search needs, omega arith, λ _. refl))
 
-seek-exchanged-requires-2 : (t : ℕ) → seek-lts.Need-exchanged-requires-2 (given t) (seek-at t) seek.Post seek-Inv-loop seek-μ-loop
-seek-exchanged-requires-2 t c κs = search needs
-
 seek-returns-2 : (t : ℕ) → seek-lts.Need-returns-2 (given t) (seek-at t) seek.Post seek-Inv-loop seek-μ-loop
-seek-returns-2 t c = turn-searched _ _ _ _ _ _ _ _ _ _ _ _ _ (c .before .seek .ensures) _ (c .before .before .if2 .left) _ (c .before .before .before .if1 .taken) _ (c .exchanged2 .ensures)
+seek-returns-2 t c = turn-searched _ _ _ _ _ _ _ _ _ _ _ _ _ (c .seek .ensures) _ (c .before .if2 .left) _ (c .before .before .if1 .taken)
 
 seek-loop-holds : (t : ℕ) → seek-lts.Need-loop-holds (given t) (seek-at t) seek.Post seek-Inv-loop seek-μ-loop
-seek-loop-holds t c = (c .before .pre .1 .0, c .before .pre .1 .1, c .before .pre .1 .2, c .before .pre .1 .3, c .if1 .left, omega arith, record { left = search needs; right = search needs; few = omega arith }, search cleared-start)
+seek-loop-holds t c = (c .before .pre .1 .0, c .before .pre .1 .1, c .before .pre .1 .2, c .before .pre .1 .3, c .if1 .left, omega arith, record { left = search needs; right = search needs; few = omega arith }, search below-start)
 
 seek-mul-loop : (t : ℕ) → seek-lts.Need-mul-loop (given t) (seek-at t) seek.Post seek-Inv-loop seek-μ-loop
 seek-mul-loop t c = search needs
@@ -74,26 +64,17 @@ seek-sub-seek t c = search needs
 seek-seek-requires-2 : (t : ℕ) → seek-lts.Need-seek-requires-2 (given t) (seek-at t) seek.Post seek-Inv-loop seek-μ-loop
 seek-seek-requires-2 t c κs = (link-less _ _ _ _ (c .before .before .before .before .before .before .before .before .pre .0) (c .before .before .before .before .before .before .loop .inv .4), (record { left = search needs; right = search needs; named = search needs; firsts = search needs; seconds = search needs }, omega arith, search needs, search needs))
 
-seek-back-requires : (t : ℕ) → seek-lts.Need-back-requires (given t) (seek-at t) seek.Post seek-Inv-loop seek-μ-loop
-seek-back-requires t c κs = (c .before .before .before .before .before .before .before .before .before .before .before .loop .inv .0 .left, c .before .before .before .before .before .before .before .before .before .before .before .loop .inv .0 .right, c .before .before .before .before .before .before .before .before .before .before .before .loop .inv .0 .firsts, tail-low _ _ _ _ _ _ _ _ _ _ _ _ _ _ (c .before .before .before .before .before .before .before .fill .ensures) _ _ (c .before .before .before .before .seek2 .ensures .first (c .before .before .if3 .taken)), tail-beyond _ _ _ _ _ _ _ _ _ _ _ _ _ _ (c .before .before .before .before .before .before .before .fill .ensures) _ _ (c .before .before .before .before .seek2 .ensures .first (c .before .before .if3 .taken)))
-
-seek-behind-requires : (t : ℕ) → seek-lts.Need-behind-requires (given t) (seek-at t) seek.Post seek-Inv-loop seek-μ-loop
-seek-behind-requires t c κs = tail-short _ _ _ _ _ _ _ _ _ _ _ _ _ _ (c .before .before .before .before .before .before .before .before .fill .ensures) _ _ (c .before .before .before .before .before .seek2 .ensures .first (c .before .before .before .if3 .taken)) (c .before .before .before .before .before .before .before .before .before .before .before .before .loop .inv .1) (c .before .before .before .before .before .before .before .before .before .before .before .before .loop .inv .4)
-
 seek-returns-3 : (t : ℕ) → seek-lts.Need-returns-3 (given t) (seek-at t) seek.Post seek-Inv-loop seek-μ-loop
-seek-returns-3 t c = pair-found _ _ _ _ _ _ _ _ _ _ _ _ _ _ _ _ _ _ _ _ _ _ _ (c .before .before .before .before .before .before .before .before .before .fill .ensures) (c .before .before .before .before .before .before .seek2 .ensures) (c .before .before .before .before .if3 .taken) (c .before .before .before .before .before .before .before .before .before .before .before .before .before .loop .inv .4) _ (c .before .back .ensures) _ (c .behind .ensures) _ refl refl refl
+seek-returns-3 t c = below-found _ _ _ _ _ _ _ _ _ _ _ _ _ _ _ _ _ _ _ _ _ _ _ (c .before .before .before .before .fill .ensures) (c .before .seek2 .ensures) (c .if3 .taken) (c .before .before .before .before .before .before .before .before .loop .inv .4) _ refl
 
 seek-loop-less : (t : ℕ) → seek-lts.Need-loop-less (given t) (seek-at t) seek.Post seek-Inv-loop seek-μ-loop
-seek-loop-less t c = omega (arith, c .before .before .before .before .before .fill .ensures .further (omega arith) (c .before .before .before .before .before .before .before .before .loop-test .taken))
+seek-loop-less t c = omega (arith, c .before .before .before .before .fill .ensures .further (omega arith) (c .before .before .before .before .before .before .before .loop-test .taken))
 
 seek-loop-again : (t : ℕ) → seek-lts.Need-loop-again (given t) (seek-at t) seek.Post seek-Inv-loop seek-μ-loop
-seek-loop-again t c = (search needs, search needs, search needs, search needs, search needs, search needs, record { left = c .before .before .before .before .before .fill .ensures .room .left; right = c .before .before .before .before .before .fill .ensures .room .right; few = omega arith }, cleared-next _ _ _ _ _ _ _ _ _ _ _ _ _ _ _ _ _ _ _ _ _ _ _ (c .before .before .before .before .before .fill .ensures) (c .before .before .seek2 .ensures) (c .if3 .left) (c .before .before .before .before .before .before .before .before .before .loop .inv .7))
-
-seek-nothing-requires : (t : ℕ) → seek-lts.Need-nothing-requires (given t) (seek-at t) seek.Post seek-Inv-loop seek-μ-loop
-seek-nothing-requires t c κs = search needs
+seek-loop-again t c = (search needs, search needs, search needs, search needs, search needs, search needs, record { left = c .before .before .before .before .fill .ensures .room .left; right = c .before .before .before .before .fill .ensures .room .right; few = omega arith }, below-next _ _ _ _ _ _ _ _ _ _ _ _ _ _ _ _ _ _ _ _ _ _ _ (c .before .before .before .before .fill .ensures) (c .before .seek2 .ensures) (c .if3 .left) (c .before .before .before .before .before .before .before .before .loop .inv .7))
 
 seek-returns-4 : (t : ℕ) → seek-lts.Need-returns-4 (given t) (seek-at t) seek.Post seek-Inv-loop seek-μ-loop
-seek-returns-4 t c = cleared-end _ _ _ _ _ _ _ _ _ _ _ _ _ _ _ (c .before .before .loop .inv .0 .left) (c .before .before .loop .inv .0 .named) _ _ (c .before .before .loop .inv .4) _ (c .nothing .ensures) (c .before .loop-test .left) (c .before .before .loop .inv .0 .firsts) (c .before .before .loop .inv .7)
+seek-returns-4 t c = below-end _ _ _ _ _ _ _ _ _ _ _ _ _ _ _ (c .before .loop .inv .0 .left) (c .before .loop .inv .0 .named) _ _ (c .before .loop .inv .4) _ refl (c .loop-test .left) (c .before .loop .inv .0 .firsts) (c .before .loop .inv .7)
 
 pub +seek-spec : {M : Type 1} → statement M
 +seek-spec = close μ-seek λ t. seek-lts.spec (given t)
@@ -102,20 +83,15 @@ pub +seek-spec : {M : Type 1} → statement M
     seek-Inv-loop
     seek-μ-loop
     (seek-two-tips-requires t)
-    (seek-exchanged-requires t)
     (seek-returns t)
     (seek-seek-requires t)
-    (seek-exchanged-requires-2 t)
     (seek-returns-2 t)
     (seek-loop-holds t)
     (seek-mul-loop t)
     (seek-fill-requires t)
     (seek-sub-seek t)
     (seek-seek-requires-2 t)
-    (seek-back-requires t)
-    (seek-behind-requires t)
     (seek-returns-3 t)
     (seek-loop-less t)
     (seek-loop-again t)
-    (seek-nothing-requires t)
     (seek-returns-4 t)

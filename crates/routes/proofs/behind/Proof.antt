@@ -1,23 +1,24 @@
+-- `routes::behind` meets its contract. Assumes nothing.
 use mathlib.Core.Path.{refl}
 use Rattle.routes.proofs.Clashes.{prepended}
 use borrow.Author.Needs.{needs}
 use Rattle.routes.proofs.behind.Statement.{statement}
 use Rattle.routes.proofs.behind.Tie as tie
 
-add-t5 : tie.Need-add-t5
-add-t5 c = search needs
+add-t4 : tie.Need-add-t4
+add-t4 c = search needs
 
-array-read-t8 : tie.Need-array-read-t8
-array-read-t8 c = search needs
+array-read-t7 : tie.Need-array-read-t7
+array-read-t7 c = search needs
 
-array-read-t11 : tie.Need-array-read-t11
-array-read-t11 c = search needs
+array-read-t10 : tie.Need-array-read-t10
+array-read-t10 c = search needs
 
-array-read-t14 : tie.Need-array-read-t14
-array-read-t14 c = search needs
+array-read-t13 : tie.Need-array-read-t13
+array-read-t13 c = search needs
 
 returns : tie.Need-returns
-returns c = prepended _ _ _ (c .before .before .before .pre) refl refl refl refl
+returns c = prepended _ _ _ (c .before .before .pre) refl refl
 
 pub behind-spec : {M : Type 1} → statement M
-behind-spec = tie.close (tie.spec add-t5 array-read-t8 array-read-t11 array-read-t14 returns)
+behind-spec = tie.close (tie.spec add-t4 array-read-t7 array-read-t10 array-read-t13 returns)

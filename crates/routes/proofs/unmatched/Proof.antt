@@ -1,4 +1,5 @@
-use Rattle.routes.proofs.Clashes.{fault-same, fault-differ, fault-none}
+-- `routes::unmatched` meets its contract. Assumes nothing.
+use Rattle.routes.proofs.Clashes.{unmet-same, unmet-differ}
 use borrow.Author.Needs.{needs}
 use Rattle.routes.proofs.unmatched.Statement.{statement}
 use Rattle.routes.proofs.unmatched.Tie as tie
@@ -7,16 +8,13 @@ misses-requires : tie.Need-misses-requires
 misses-requires c κs = search needs
 
 returns : tie.Need-returns
-returns c = search fault-same
+returns c = search unmet-same
 
 misses-requires-2 : tie.Need-misses-requires-2
 misses-requires-2 c κs = search needs
 
 returns-2 : tie.Need-returns-2
-returns-2 c = search fault-differ
-
-returns-3 : tie.Need-returns-3
-returns-3 c = search fault-none
+returns-2 c = search unmet-differ
 
 pub unmatched-spec : {M : Type 1} → statement M
-unmatched-spec = tie.close (tie.spec misses-requires returns misses-requires-2 returns-2 returns-3)
+unmatched-spec = tie.close (tie.spec misses-requires returns misses-requires-2 returns-2)

@@ -1,0 +1,44 @@
+//! A call of Compare, timed, and the lists that are lent to it.
+
+use crate::clock::running;
+use crate::support::outcome::Outcome;
+use std::hint::black_box;
+use std::time::Duration;
+
+pub type Compare = fn(&[u8], &[u8], usize, &mut [u16], &mut [u8], &mut [u8]) -> Outcome;
+
+/// What is lent: a map, room and scratch.
+#[derive(PartialEq, Hash)]
+pub struct Lists {
+    map: Vec<u16>,
+    room: Vec<u8>,
+    scratch: Vec<u8>,
+}
+
+impl Lists {
+    /// As long as books with so many pairs of cells need them.
+    pub fn new(pairs: usize) -> Lists {
+        Lists {
+            map: vec![0; pairs],
+            room: vec![0; 10 + 44 * pairs],
+            scratch: vec![0; 16 * pairs],
+        }
+    }
+}
+
+/// The answer and the time of one call. All three lists are filled with ones before, outside of the time.
+pub fn timed(
+    compare: Compare,
+    left: &[u8],
+    right: &[u8],
+    bound: usize,
+    lists: &mut Lists,
+) -> (Outcome, Duration) {
+    lists.map.fill(u16::MAX);
+    lists.room.fill(u8::MAX);
+    lists.scratch.fill(u8::MAX);
+    let Lists { map, room, scratch } = black_box(lists);
+    let start = running();
+    let answer = compare(black_box(left), black_box(right), bound, map, room, scratch);
+    (answer, running() - start)
+}

@@ -1,0 +1,64 @@
+//! Compare of one library on the families of books, row by row as `bench/beside` asks for them. The first line that is printed says how
+//! many families there are. Then for each line read, a family's number and a bound, one is printed, its fields apart by tabs: the
+//! group, the name and the cells of the family; the matched pairs; a number that stands for what was written; and the time in ms.
+
+mod calls;
+mod clock;
+mod families;
+#[path = "../tests/support/mod.rs"]
+mod support;
+
+use calls::{timed, Lists};
+use families::{changed, hard, ordinary, Family};
+use std::hash::{DefaultHasher, Hash, Hasher};
+use std::io::stdin;
+use std::time::Duration;
+use support::library;
+
+/// A row's calls take so long in all; there is at least one.
+const MEASURED: Duration = Duration::from_millis(20);
+
+fn main() {
+    let groups = [
+        ("ordinary", ordinary()),
+        ("hard", hard()),
+        ("changed", changed()),
+    ];
+    let families: Vec<(&str, Family)> = groups
+        .into_iter()
+        .flat_map(|(group, families)| families.into_iter().map(move |family| (group, family)))
+        .collect();
+    println!("{}", families.len());
+    for line in stdin().lines() {
+        let line = line.expect("a line");
+        let (family, bound) = line.split_once(' ').expect("two numbers");
+        let number = |field: &str| field.parse().expect("a number");
+        let (group, family) = &families[number(family)];
+        println!("{group}\t{}", row(family, number(bound)));
+    }
+}
+
+/// The other fields of a row: the time is that of the shortest call.
+fn row(family: &Family, bound: usize) -> String {
+    let (left, right) = (family.left.bytes(), family.right.bytes());
+    let mut lists = Lists::new(family.left.cells() * family.right.cells());
+    let mut call = || timed(library::compare, &left, &right, bound, &mut lists);
+    let (answer, mut best) = call();
+    let mut all = best;
+    while all < MEASURED {
+        let (_, time) = call();
+        best = best.min(time);
+        all += time;
+    }
+    assert_eq!(answer.refusal, 0, "{}", family.name);
+    let mut written = DefaultHasher::new();
+    lists.hash(&mut written);
+    format!(
+        "{}\t{}\t{}\t{:x}\t{:.6}",
+        family.name,
+        family.left.cells(),
+        answer.second,
+        written.finish(),
+        best.as_secs_f64() * 1e3
+    )
+}

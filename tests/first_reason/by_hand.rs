@@ -1,0 +1,142 @@
+//! Books small enough to see what the plain loops come to first.
+
+use crate::support::books::{book, chain, example_a_left, example_a_right, link, Book};
+use crate::support::sheets::Entry::{And, Differ, Not, Same, True, Way};
+use crate::support::sheets::{step, Entry, Step};
+use crate::tally::Tally;
+
+pub fn all(tally: &mut Tally) {
+    example_a(tally);
+    chains(tally);
+    links(tally);
+    paths(tally);
+}
+
+/// Steps along these labels, with always true as tests.
+fn steps(labels: &[u8]) -> Vec<Step> {
+    labels.iter().map(|&label| step(label, 0)).collect()
+}
+
+fn way(label: u8) -> Entry {
+    Way(steps(&[label]))
+}
+
+fn same(first: &[u8], second: &[u8]) -> Entry {
+    Same(steps(first), steps(second))
+}
+
+fn differ(first: &[u8], second: &[u8]) -> Entry {
+    Differ(steps(first), steps(second))
+}
+
+/// "At A, bounds 1 to 4, (0,0) compares one step in all": the question is "differ: stay, step 1".
+fn example_a(tally: &mut Tally) {
+    let entries = [
+        // (0, 0)
+        differ(&[], &[1]),
+        Not(1),
+        // (0, 1)
+        way(1),
+        Not(3),
+        And(1, 3),
+        // (1, 0)
+        way(1),
+        Not(6),
+        And(2, 6),
+        // (2, 0)
+        way(1),
+        Not(9),
+        And(8, 9),
+    ];
+    let map = [1, 3, 7, 0, 10, 0];
+    let (left, right) = (example_a_left(), example_a_right());
+    for bound in 1..=4 {
+        let sheet = whole(tally, &left, &right, bound, &map, &entries);
+        // The entry after always true: 6 bytes follow, kind 6, 0 steps and 1 step, label 1, test 0.
+        assert_eq!(sheet[10..][..7], [6, 6, 0, 1, 1, 0, 0]);
+    }
+}
+
+/// A chain of three cells and one of two: the second round tests a cell by what the first wrote.
+fn chains(tally: &mut Tally) {
+    let entries = [
+        // (0, 1)
+        way(1),
+        Not(1),
+        // (1, 1)
+        way(1),
+        Not(3),
+        And(2, 4),
+        // (2, 0)
+        way(1),
+        Not(6),
+        // (0, 0), in the second round
+        Way(vec![step(1, 3)]),
+        Not(8),
+        And(1, 8),
+        And(6, 9),
+    ];
+    let map = [8, 1, 0, 3, 7, 0];
+    let (left, right) = (chain(vec![5; 3], |_| 1), chain(vec![5; 2], |_| 1));
+    for bound in 0..=1 {
+        whole(tally, &left, &right, bound, &map, &entries);
+    }
+}
+
+/// Compares the books: the map is this one, and the entries are these after always true. Gives the sheet's bytes.
+fn whole(
+    tally: &mut Tally,
+    left: &Book,
+    right: &Book,
+    bound: usize,
+    map: &[u16],
+    entries: &[Entry],
+) -> Vec<u8> {
+    let (given, sheet) = tally.compare(left, right, bound);
+    assert_eq!(given, map);
+    assert_eq!(sheet.entries, [&[True][..], entries].concat());
+    sheet.bytes()
+}
+
+/// Links are tried before paths, each in their order, and the left cell's before the right one's.
+fn links(tally: &mut Tally) {
+    let none = book(&[5], &[]);
+    let one = |label| book(&[5, 5], &[link(0, label, 1)]);
+    let two = |x, y| book(&[5, 6], &[link(0, x, 1), link(0, y, 1)]);
+    first(tally, &two(2, 7), &none, 4, true, way(2));
+    first(tally, &none, &two(2, 7), 4, false, way(2));
+    first(tally, &one(9), &one(3), 4, true, way(9));
+    first(tally, &two(1, 2), &one(1), 4, true, way(2));
+    first(tally, &one(1), &two(1, 2), 4, true, same(&[], &[1]));
+}
+
+/// Two paths with fewest links in all are tried first, of these those with the shorter first path, then in the order of the links.
+fn paths(tally: &mut Tally) {
+    // Two paths that differ only in the left book: by 1, 1 and staying, and by 1 and by 2.
+    let two = |recordings: &[u32]| {
+        let links = [link(0, 1, 1), link(0, 2, 2), link(1, 1, 3)];
+        book(recordings, &links)
+    };
+    let (left, right) = (two(&[5, 6, 7, 8]), two(&[5, 6, 6, 5]));
+    first(tally, &left, &right, 1, true, differ(&[1], &[2]));
+    first(tally, &left, &right, 2, true, differ(&[], &[1, 1]));
+
+    let star = |recordings: &[u32]| {
+        let links = [link(0, 1, 1), link(0, 2, 2), link(0, 3, 3)];
+        book(recordings, &links)
+    };
+    let alike = star(&[5, 6, 6, 6]);
+    let last = star(&[5, 6, 6, 7]);
+    first(tally, &last, &alike, 4, true, differ(&[1], &[3]));
+    let all = star(&[5, 6, 7, 8]);
+    first(tally, &all, &alike, 4, true, differ(&[1], &[2]));
+    first(tally, &alike, &all, 4, true, same(&[1], &[2]));
+}
+
+/// Compares the books: the first pair is parted in the first round, by this entry at the left cell or else at the right one.
+fn first(tally: &mut Tally, left: &Book, right: &Book, bound: usize, at_left: bool, entry: Entry) {
+    let (map, sheet) = tally.compare(left, right, bound);
+    assert_eq!(map[0], if at_left { 1 } else { 2 });
+    assert_eq!(sheet.entries[1], entry);
+    assert_eq!(sheet.entries[2], Not(1));
+}

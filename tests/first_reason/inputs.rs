@@ -1,0 +1,63 @@
+//! Pairs of small books that are compared.
+
+use crate::support::books::{book, link, Book};
+use crate::support::random::Random;
+use crate::support::shapes::{draw, SHAPES};
+use crate::tally::Tally;
+
+/// How many pairs of books of each shape at each bound.
+const DRAWN: usize = 2_000;
+
+pub fn all(tally: &mut Tally) {
+    let random = &mut Random::new(15);
+    every_small(tally);
+    by_shape(tally, random);
+}
+
+/// Every two books of one or two cells and one label.
+fn every_small(tally: &mut Tally) {
+    let mut books = Vec::new();
+    for recordings in [&[5][..], &[5, 5], &[5, 6]] {
+        let cells = recordings.len() as u8;
+        let ends = (0..cells).flat_map(|x| (0..cells).map(move |y| (x, y)));
+        let links: Vec<_> = ends.map(|(x, y)| link(x, 1, y)).collect();
+        for chosen in 0..1 << links.len() {
+            let there = (0..links.len()).filter(|place| chosen >> place & 1 == 1);
+            let there: Vec<_> = there.map(|place| links[place]).collect();
+            books.push(book(recordings, &there));
+        }
+    }
+    for left in &books {
+        for right in &books {
+            for bound in 0..=4 {
+                tally.compare(left, right, bound);
+            }
+        }
+    }
+}
+
+/// Books of every shape: any, and made from one another. Some are given any labels.
+fn by_shape(tally: &mut Tally, random: &mut Random) {
+    for shape in &SHAPES {
+        for bound in 0..=4 {
+            for _ in 0..DRAWN {
+                let (mut left, mut right) = draw(random, shape, bound);
+                if random.one_in(4) {
+                    relabel(random, &mut left, &mut right);
+                }
+                tally.compare(&left, &right, bound);
+            }
+        }
+    }
+}
+
+/// Gives two books other labels: the same for the same, different ones for different ones.
+fn relabel(random: &mut Random, left: &mut Book, right: &mut Book) {
+    let (factor, added) = (random.byte() | 1, random.byte());
+    for book in [left, right] {
+        for link in &mut book.links {
+            link.label = link.label.wrapping_mul(factor).wrapping_add(added);
+        }
+        book.links.sort();
+    }
+}

@@ -1,0 +1,131 @@
+//! Compares what the library leaves with what the plain loops do, call by call, and counts what parts the pairs.
+
+use crate::shorter::Shorter;
+use crate::support::books::Book;
+use crate::support::call::Call;
+use crate::support::described::compared;
+use crate::support::lent::Lent;
+use crate::support::library::{self, needed};
+use crate::support::loops::Reason;
+use crate::support::random::Random;
+use crate::support::sheets::Sheet;
+
+/// The most steps in all of a comparison: two ways of 4.
+const MOST_STEPS: usize = 8;
+
+/// What the maps at one bound name.
+#[derive(Default)]
+struct Named {
+    cases: usize,
+    matched: usize,
+    /// Links, at the left cell or at the right one.
+    links: [usize; 2],
+    /// Comparisons at the left cell or, denied, at the right one; by their steps in all.
+    comparisons: [[usize; MOST_STEPS + 1]; 2],
+}
+
+pub struct Tally {
+    random: Random,
+    turn: usize,
+    by_bound: [Named; 5],
+    shorter: Shorter,
+}
+
+impl Tally {
+    pub fn new() -> Tally {
+        Tally {
+            random: Random::new(16),
+            turn: 0,
+            by_bound: Default::default(),
+            shorter: Shorter::default(),
+        }
+    }
+
+    /// The library's answer, map and sheet are those of the plain loops, and bytes after the sheet are unchanged. Where the map
+    /// names a comparison, no shorter one parts the cells. Gives the map and the sheet.
+    pub fn compare(&mut self, left: &Book, right: &Book, bound: usize) -> (Vec<u16>, Sheet) {
+        let (one, other) = (left.bytes(), right.bytes());
+        let (map, room, scratch) = needed(left.cells() * right.cells());
+        let more = self.random.pick(&[0, 1, 7, 100]);
+        let around = self.random.byte();
+        let map: Vec<u16> = (0..map).map(|_| self.random.next() as u16).collect();
+        let room: Vec<u8> = (0..room + more).map(|_| self.random.byte()).collect();
+        let mut lent_map = Lent::new(&map, self.turn, around as u16);
+        let mut lent_room = Lent::new(&room, self.turn + 3, around);
+        let mut scratch = vec![around; scratch];
+        let answer = library::compare(
+            &one,
+            &other,
+            bound,
+            lent_map.lend(),
+            lent_room.lend(),
+            &mut scratch,
+        );
+
+        let call = Call {
+            name: "compare",
+            numbers: format!("case {}, bound {bound}", self.turn),
+            inputs: &[("left book", &one), ("right book", &other)],
+        };
+        let expected = compared(left, right, bound);
+        if let Some(what) = expected.difference(answer, lent_map.values(), lent_room.values()) {
+            call.fail(&what);
+        }
+        let length = expected.sheet.len();
+        if lent_room.values()[length..] != room[length..] {
+            call.fail("bytes after the sheet were changed");
+        }
+        if !lent_map.alone() || !lent_room.alone() {
+            call.fail("what is beside the map or the room was changed");
+        }
+        let sheet = Sheet::of_bytes(&expected.sheet);
+        self.count(&expected.map, &sheet);
+        self.shorter
+            .check(&call, left, right, &expected.map, &sheet);
+        self.turn += 1;
+        (expected.map, sheet)
+    }
+
+    fn count(&mut self, map: &[u16], sheet: &Sheet) {
+        let named = &mut self.by_bound[sheet.bound as usize];
+        named.cases += 1;
+        for &number in map {
+            if number == 0 {
+                named.matched += 1;
+                continue;
+            }
+            let reason = Reason::of_entry(sheet, number);
+            let side = !reason.from_left as usize;
+            *match reason.link {
+                true => &mut named.links[side],
+                false => &mut named.comparisons[side][reason.steps],
+            } += 1;
+        }
+    }
+
+    /// Prints the counts, and gives the number of cases. Ends the test where no comparison has some number of steps in all.
+    pub fn report(&self) -> usize {
+        println!("what the maps name, by bound:");
+        for (bound, named) in self.by_bound.iter().enumerate() {
+            println!(
+                "  bound {bound}: {} cases, {} matched",
+                named.cases, named.matched
+            );
+            for (side, name) in ["at the left", "at the right"].into_iter().enumerate() {
+                let by_steps = &named.comparisons[side][..=2 * bound];
+                let comparisons: usize = by_steps.iter().sum();
+                println!(
+                    "    {name:<13}links {:>7}, comparisons {comparisons:>7}, by steps in all {by_steps:?}",
+                    named.links[side]
+                );
+                // None compares staying with itself.
+                if let Some(steps) = (1..by_steps.len()).find(|&steps| by_steps[steps] == 0) {
+                    println!("bound {bound}: no comparison {name} has {steps} steps in all");
+                    std::process::exit(1);
+                }
+            }
+        }
+        self.shorter.report();
+        self.turn
+    }
+}
