@@ -120,8 +120,8 @@ const TIPS: usize = 64;
 /// How often a part was full, for the tests.
 pub static FULL: AtomicUsize = AtomicUsize::new(0);
 
-/// How often one tip a cell told that a pair stays; and where it did not, how often no two classes of a table of all lengths clash, how
-/// often some do, and how often it was full, for the tests.
+/// How often one tip a cell told that a pair stays; and where it did not, how often no two classes of the table of what comparisons see
+/// clash, how often some do, and how often it was full, for the tests.
 pub static BY_CELLS: AtomicUsize = AtomicUsize::new(0);
 pub static QUIET: AtomicUsize = AtomicUsize::new(0);
 pub static CLASHED: AtomicUsize = AtomicUsize::new(0);
@@ -491,19 +491,35 @@ impl<const PLACES: usize> Search<'_, PLACES> {
         })
     }
 
-    /// A table of the tips of all paths of at most `bound` links from x with y for a partner, without covered ones; none where it
-    /// would be full.
-    fn covering(&self, x: usize, y: usize, bound: usize) -> Option<Table> {
-        let (labels, many) = self.one.labels_of();
-        let mut table = Table::one(x, 1 << y);
-        for _ in 0..bound {
-            let mut next = table.clone();
-            if self.fill(&labels[..many], &table, 0, &mut next) < ROOM * many {
-                return None;
+    /// Puts the tips of all paths of at most `more` links from those of the table p into `all`, each with the cells that have the recording of
+    /// one of its set: comparisons see no more of a set. False where there are more than `PLACES` classes of them.
+    fn gather(&self, labels: &[u8], p: &Table, more: usize, all: &mut Table) -> bool {
+        for (cells, set) in p.classes() {
+            if !all.put(cells, passing(&self.other.ends[0], set), PLACES) {
+                return false;
             }
-            table = next;
         }
-        Some(table)
+        if more == 0 {
+            return true;
+        }
+        let mut part = Table::empty();
+        let mut at = 0;
+        while at < ROOM * labels.len() {
+            at = self.next_part(labels, p, at, &mut part);
+            if !self.gather(labels, &part, more - 1, all) {
+                return false;
+            }
+        }
+        true
+    }
+
+    /// A table of what comparisons see of the tips of all paths of at most `bound` links from x with y for a partner, without covered ones;
+    /// none where it would be full.
+    fn by_values(&self, x: usize, y: usize, bound: usize) -> Option<Table> {
+        let (labels, many) = self.one.labels_of();
+        let mut all = Table::empty();
+        let whole = self.gather(&labels[..many], &Table::one(x, 1 << y), bound, &mut all);
+        whole.then_some(all)
     }
 
     /// Puts the tips one link beyond the tip (cell, w) into a table with one tip a cell. Links with one label come one after another.
@@ -540,7 +556,7 @@ impl<const PLACES: usize> Search<'_, PLACES> {
             return true;
         }
         let clash = self
-            .covering(x, y, bound)
+            .by_values(x, y, bound)
             .map(|table| self.two_tips(&table, &table));
         let seen = match clash {
             Some(false) => &QUIET,

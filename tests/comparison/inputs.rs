@@ -35,6 +35,7 @@ pub fn all(tally: &mut Tally) {
     crowded(tally, random);
     large(tally, random);
     dense(tally, random);
+    many_values(tally, random);
 }
 
 /// Exactly what two books need.
@@ -353,4 +354,27 @@ fn ask_dense(tally: &mut Tally, random: &mut Random, cells: usize, labels: usize
     ask(tally, random, &book, &other, bound, TENS, SOME_CLAIMS);
     let other = split(random, &book, cells / 4, 20);
     ask(tally, random, &book, &other, bound, TENS, SOME_CLAIMS);
+}
+
+/// Ways to one cell with more sets of recordings than the tables of the library have places. Of the other book's 13 cells that differ in
+/// recording, a link by each of 12 labels leads to seven, of which any two such sets share some, and by the label's number further round.
+fn many_values(tally: &mut Tally, random: &mut Random) {
+    let mut left = book(&[0, 1], &[]);
+    let mut right = book(&(0..14).collect::<Vec<u32>>(), &[]);
+    for label in 1..=12 {
+        left.links.extend([link(0, label, 1), link(1, label, 1)]);
+        let mut seven: Vec<u8> = (1..=13).collect();
+        while seven.len() > 7 {
+            seven.swap_remove(random.below(seven.len()));
+        }
+        right
+            .links
+            .extend(seven.iter().map(|&to| link(0, label, to)));
+        right
+            .links
+            .extend((1..=13).map(|from| link(from, label, (from + label - 1) % 13 + 1)));
+    }
+    left.links.sort();
+    right.links.sort();
+    ask(tally, random, &left, &right, 2, OTHERS, SOME_CLAIMS);
 }

@@ -23,14 +23,12 @@ pub struct Written<'a> {
     pub room: &'a [u8],
 }
 
-const QUIET_PAIRS: &str = "quiet pairs";
-
 /// What the plain version counts: how often a part was full; for how many pairs one tip a cell told that they stay; and for how many
-/// others a table of all lengths told that no classes clash, or that some do, or was full.
+/// others the table of what comparisons see told that no classes clash, or that some do, or was full.
 static COUNTS: [(&str, &AtomicUsize); 5] = [
     ("full parts", &FULL),
     ("pairs told by cells", &BY_CELLS),
-    (QUIET_PAIRS, &QUIET),
+    ("quiet pairs", &QUIET),
     ("clashing pairs", &CLASHED),
     ("pairs not known", &UNKNOWN),
 ];
@@ -126,8 +124,7 @@ impl Searches {
         }
     }
 
-    /// Prints the counts, and ends the test where something was never counted with tables of some places. Where a table of one place
-    /// covers all lengths, one tip a cell has told as much before.
+    /// Prints the counts, and ends the test where something was never counted with tables of some places.
     pub fn report(&self) {
         let all: usize = self.steps.values().sum();
         println!(
@@ -140,7 +137,7 @@ impl Searches {
             for (place, (name, _)) in COUNTS.iter().enumerate() {
                 let (count, in_cases) = (counted.counts[place], counted.in_cases[place]);
                 println!("    {name:<20}{count:>9}{in_cases:>7}");
-                if count == 0 && (*places, *name) != (1, QUIET_PAIRS) {
+                if count == 0 {
                     println!("tables of {places} places had no {name}");
                     std::process::exit(1);
                 }

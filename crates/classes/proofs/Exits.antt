@@ -217,64 +217,58 @@ module _ (v u : View) (here there a : ℕ) (rows rows₁ rows₂ : List ℕ) (f 
 or-not : (m n : ℕ) → (m < n) ⊎ (n ≤ m)
 or-not m n = ⊎-elim (λ l. inr l) (λ l. inl l) (le-or-lt n m)
 
--- ---- a part is filled: it covers what it had and the tips by the classes and labels passed
-pub record Filling (v u : View) (z labels : List ℕ) (many : ℕ) (ls rs : List ℕ) (n at : ℕ) (ls₀ rs₀ : List ℕ) (have : ℕ) (ls′ rs′ : List ℕ) (count i from : ℕ) : Type 0 where
+-- ---- a part is filled: it covers the tips by the classes and labels passed
+pub record Filling (v u : View) (z labels : List ℕ) (many : ℕ) (ls rs : List ℕ) (n at : ℕ) (ls′ rs′ : List ℕ) (count i from : ℕ) : Type 0 where
   pub room : Room ls′ rs′ count
   pub begun : at ≤ slot from i
   pub few : from < 128
-  pub fresh : slot from i ≡ at → count ≡ have
-  pub sound : (y o : ℕ) → Has ls′ rs′ count y o → Has ls₀ rs₀ have y o ⊎ Beyond v u z ls rs n y o
-  pub kept : (y o : ℕ) → Has ls₀ rs₀ have y o → Covered ls′ rs′ count y o
+  pub fresh : slot from i ≡ at → count ≡ 0
+  pub sound : (y o : ℕ) → Has ls′ rs′ count y o → Beyond v u z ls rs n y o
   pub whole : (e j x k : ℕ) → Moves v labels many ls n e j x k → at ≤ slot e j → slot e j < slot from i
       → Covered ls′ rs′ count (toOf v k) (stepWord u z (getD rs e 0) (labelOf v k) (toOf v k))
 
-module _ (v u : View) (z labels : List ℕ) (many : ℕ) (ls rs : List ℕ) (n at : ℕ) (ls₀ rs₀ : List ℕ) (have : ℕ) where
-  pub filling-start : (i from : ℕ) → Room ls₀ rs₀ have → i ≡ at / 128 → from ≡ at % 128 → Filling v u z labels many ls rs n at ls₀ rs₀ have ls₀ rs₀ have i from
-  filling-start i from r di df = record {
+module _ (v u : View) (z labels : List ℕ) (many : ℕ) (ls rs : List ℕ) (n at : ℕ) where
+  pub filling-start : (ls₀ rs₀ : List ℕ) (i from : ℕ) → Room ls₀ rs₀ 0 → i ≡ at / 128 → from ≡ at % 128 → Filling v u z labels many ls rs n at ls₀ rs₀ 0 i from
+  filling-start ls₀ rs₀ i from r di df = record {
     room = r;
     begun = omega arith;
     few = omega arith;
     fresh = λ _. refl;
-    sound = λ y o h. inl h;
-    kept = covered-by-has ls₀ rs₀ have;
+    sound = λ y o h. absurd (omega (arith, h .below));
     whole = λ e j x k m a b. absurd (omega arith);
   }
 
-  module _ (ls′ rs′ : List ℕ) (count i from : ℕ) (f : Filling v u z labels many ls rs n at ls₀ rs₀ have ls′ rs′ count i from) (room : n ≤ 128) where
-    pub filling-end : many ≤ i → (r : Part) → r .count ≡ count → r .next ≡ 128 * many → Filled v u z labels many ls rs n at ls₀ rs₀ have ls′ rs′ r
+  module _ (ls′ rs′ : List ℕ) (count i from : ℕ) (f : Filling v u z labels many ls rs n at ls′ rs′ count i from) (room : n ≤ 128) where
+    pub filling-end : many ≤ i → (r : Part) → r .count ≡ count → r .next ≡ 128 * many → Filled v u z labels many ls rs n at ls′ rs′ r
     filling-end l r dc dn = record {
       room = rw dc (f .room);
       sound = rw dc (f .sound);
-      kept = rw dc (f .kept);
       whole = λ e j x k m a b. rw dc (f .whole e j x k m a (omega (arith, m .class, m .label)));
-      further = λ _ m. omega arith;
+      further = λ m. omega arith;
       most = omega arith;
     }
 
     module _ (here there : ℕ) (wl : Unites ls n here) (wr : Unites rs n there) (rows rows₁ rows₂ : List ℕ) (a : ℕ) (da : a ≡ getD labels i 0)
         (fa : Rowed v here a 0 rows rows₁) (fb : Rowed u there a 64 rows₁ rows₂) (l : i < many)
         (ls″ rs″ : List ℕ) (p : Stretch) (w : Stretched z rows₂ ls rs n from ls′ rs′ count ls″ rs″ p) where
-      label-sound : (y o : ℕ) → Has ls″ rs″ (p .count) y o → Has ls₀ rs₀ have y o ⊎ Beyond v u z ls rs n y o
+      label-sound : (y o : ℕ) → Has ls″ rs″ (p .count) y o → Beyond v u z ls rs n y o
       unfolding stepWord
       label-sound y o h =
-          ⊎-elim (λ h. f .sound y o h)
+          ⊎-elim (f .sound y o)
           (λ (e, b, i, q).
           let t = image-out v (getD ls e 0) a y (h .cell) (rw (cells-are v u here there a rows rows₁ rows₂ fa fb ls n e wl b) at i) in
-          inr (record {
+          record {
             cell = t .node;
             word = getD rs e 0;
             link = t .link;
             has = record { class = e; below = b; cell = t .low; inside = t .inside; word = refl };
             leads = record { leaves = t .leaves; to = t .to; word = rw (t .label) (rw (set-is v u here there a rows rows₁ rows₂ fa fb rs n e wr b) at q) };
-          }))
+          })
           (w .sound y o h)
 
       -- what was covered before this label is covered after it
       later : (y o : ℕ) → Covered ls′ rs′ count y o → Covered ls″ rs″ (p .count) y o
       later = covered-trans ls′ rs′ count ls″ rs″ (p .count) (w .kept)
-
-      label-kept : (y o : ℕ) → Has ls₀ rs₀ have y o → Covered ls″ rs″ (p .count) y o
-      label-kept y o h = later y o (f .kept y o h)
 
       module _ (o : Opened (v .starts) (v .to)) where
         -- the tips by this label and the classes from `from` up to p .upto
@@ -292,27 +286,25 @@ module _ (v u : View) (z labels : List ℕ) (many : ℕ) (ls rs : List ℕ) (n a
             → Covered ls″ rs″ (p .count) (toOf v k) (stepWord u z (getD rs e 0) (labelOf v k) (toOf v k))
         whole-upto e j x k m b h = ⊎-elim (λ s. later _ _ (f .whole e j x k m b s)) (λ (q, s, t). label-whole e x k (rw q at m) s t) h
 
-        pub filling-full : p .full ≡ true → (r : Part) → r .count ≡ p .count → r .next ≡ 128 * i + p .upto → Filled v u z labels many ls rs n at ls₀ rs₀ have ls″ rs″ r
+        pub filling-full : p .full ≡ true → (r : Part) → r .count ≡ p .count → r .next ≡ 128 * i + p .upto → Filled v u z labels many ls rs n at ls″ rs″ r
         filling-full t r dn dx = record {
           room = rw dn (w .room);
           sound = rw dn label-sound;
-          kept = rw dn label-kept;
           whole = λ e j x k m b c. rw dn (whole-upto e j x k m b (parts e j (m .class) (rw dx at c)));
-          further = λ c _. ⊎-elim (λ s. omega (arith, f .begun)) (λ s. ⊎-elim (λ q. absurd (omega (arith, f .fresh (sym q)))) (λ b. omega (arith, w .onward)) (eq-or-lt-of-le (f .begun))) (w .full t .1);
+          further = λ _. ⊎-elim (λ s. omega (arith, f .begun)) (λ s. ⊎-elim (λ q. absurd (omega (arith, f .fresh (sym q)))) (λ b. omega (arith, w .onward)) (eq-or-lt-of-le (f .begun))) (w .full t .1);
           most = omega (arith, w .full t .0);
         }
           where
             parts : (e j : ℕ) → e < n → slot e j < slot (p .upto) i → slot e j < slot from i ⊎ ((j ≡ i) × (from ≤ e) × (e < p .upto))
             parts e j c s = ⊎-elim (λ b. inl b) (λ b. inr (omega (arith, w .full t .0, f .few), omega (arith, w .full t .0, f .few), omega (arith, w .full t .0, f .few))) (or-not (slot e j) (slot from i))
 
-        pub filling-next : p .full ≡ false → Filling v u z labels many ls rs n at ls₀ rs₀ have ls″ rs″ (p .count) (i + 1) 0
+        pub filling-next : p .full ≡ false → Filling v u z labels many ls rs n at ls″ rs″ (p .count) (i + 1) 0
         filling-next t = record {
           room = w .room;
           begun = omega (arith, f .begun, f .few);
           few = omega arith;
           fresh = λ q. absurd (omega (arith, f .begun, f .few));
           sound = label-sound;
-          kept = label-kept;
           whole = λ e j x k m b c. whole-upto e j x k m b (parts e j (m .class) c);
         }
           where

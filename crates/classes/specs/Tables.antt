@@ -81,13 +81,12 @@ pub record Moves (v : View) (labels : List ℕ) (many : ℕ) (ls : List ℕ) (n 
 abbrev pub slot : ℕ → ℕ → ℕ
 slot e i = 128 * i + e
 
--- The part has nothing but what it had and tips one link beyond the table. It covers what it had, and the tips by the classes and labels from
--- place `at` up to p .next, which is further on where there was room.
-pub record Filled (v u : View) (z labels : List ℕ) (many : ℕ) (ls rs : List ℕ) (n at : ℕ) (ls₀ rs₀ : List ℕ) (count : ℕ) (ls′ rs′ : List ℕ) (p : Part) : Type 0 where
+-- The part has nothing but tips one link beyond the table. It covers the tips by the classes and labels from place `at` up to p .next, which is
+-- further on.
+pub record Filled (v u : View) (z labels : List ℕ) (many : ℕ) (ls rs : List ℕ) (n at : ℕ) (ls′ rs′ : List ℕ) (p : Part) : Type 0 where
   pub room : Room ls′ rs′ (p .count)
-  pub sound : (y o : ℕ) → Has ls′ rs′ (p .count) y o → Has ls₀ rs₀ count y o ⊎ Beyond v u z ls rs n y o
-  pub kept : (y o : ℕ) → Has ls₀ rs₀ count y o → Covered ls′ rs′ (p .count) y o
+  pub sound : (y o : ℕ) → Has ls′ rs′ (p .count) y o → Beyond v u z ls rs n y o
   pub whole : (e i x k : ℕ) → Moves v labels many ls n e i x k → at ≤ slot e i → slot e i < p .next
       → Covered ls′ rs′ (p .count) (toOf v k) (stepWord u z (getD rs e 0) (labelOf v k) (toOf v k))
-  pub further : count ≤ 64 → at < 128 * many → at < p .next
+  pub further : at < 128 * many → at < p .next
   pub most : p .next ≤ 128 * many

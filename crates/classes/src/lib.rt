@@ -154,8 +154,8 @@ pub struct Part {
     pub next: usize,
 }
 
-// Puts the tips one link beyond those of a table, from the place `at` on, into a table of `have` classes, until it is full or covers all. The
-// place of label number i and class e is 128 × i + e.
+// Makes a table of the tips one link beyond those of another, from the place `at` on, until it is full or covers all. The place of label number i
+// and class e is 128 × i + e.
 pub fn fill(
     sa: &[u16; 65],
     la: &[u16; 512],
@@ -172,15 +172,14 @@ pub fn fill(
     at: usize,
     ends: &mut [u64; 128],
     sets: &mut [u64; 128],
-    have: usize,
 ) -> Part
-    requires { ⌜ Opened (now sa) (now ta) × Opened (now sb) (now tb) × (many ≤ 512) × (n ≤ 128) × (at ≤ 128 * many) × Room (now ends) (now sets) have ⌝ }
-    ensures { λ r. ⌜ Filled (viewOf (now (sa .entry)) (now (la .entry)) (now (ta .entry))) (viewOf (now (sb .entry)) (now (lb .entry)) (now (tb .entry))) (now (z .entry)) (now (labels .entry)) many (now (lefts .entry)) (now (rights .entry)) n at (now (ends .entry)) (now (sets .entry)) have (now (ends .exit)) (now (sets .exit)) r ⌝ }
+    requires { ⌜ Opened (now sa) (now ta) × Opened (now sb) (now tb) × (many ≤ 512) × (n ≤ 128) × (at ≤ 128 * many) × Room (now ends) (now sets) 0 ⌝ }
+    ensures { λ r. ⌜ Filled (viewOf (now (sa .entry)) (now (la .entry)) (now (ta .entry))) (viewOf (now (sb .entry)) (now (lb .entry)) (now (tb .entry))) (now (z .entry)) (now (labels .entry)) many (now (lefts .entry)) (now (rights .entry)) n at (now (ends .exit)) (now (sets .exit)) r ⌝ }
 {
     let here = union_of(lefts, n);
     let there = union_of(rights, n);
     let mut rows = [0u64; 128];
-    let mut count = have;
+    let mut count = 0;
     let mut i = at / 128;
     let mut from = at % 128;
     while i < many {

@@ -15,12 +15,10 @@ use Rattle.words.specs.Words.{bit, Inside}
 use Rattle.words.specs.Laws.{bit-zero, bit-pow, bit-and}
 use Rattle.hops.specs.Hops.{View, startOf, labelOf, toOf, Opened}
 use Rattle.hops.specs.Sets.{imageOf}
-use Rattle.tables.specs.Tips.{Has, Covered, Room}
-use Rattle.tables.specs.Laws.{equal-or, inside-refl, covered-by-has, covered-wider, covered-trans, one-has}
-use Rattle.classes.specs.declared.Part.{Part}
+use Rattle.tables.specs.Tips.{Has, Covered}
+use Rattle.tables.specs.Laws.{equal-or, inside-refl, covered-by-has, covered-wider, covered-trans}
 use Rattle.classes.specs.Paths.{Leaves, Trail, endOf, stepWord, endsOver}
-use Rattle.classes.specs.Tables.{Named, Filled}
-use Rattle.classes.specs.Laws.{leaves-below, step-inside}
+use Rattle.classes.specs.Laws.{step-inside}
 use Rattle.routes.specs.Pairs.{fault, failure, alone}
 use Rattle.routes.specs.Laws.{fault-inside}
 use Rattle.routes.specs.Tails.{Met}
@@ -57,9 +55,6 @@ module _ (v u : View) (z : List ℕ) where
       }
 
 -- ---- tables with one class a cell
-pub celled-room : (ls rs : List ℕ) → Celled ls rs → Room ls rs 64
-celled-room ls rs h = record { left = h .left; right = h .right; few = omega arith }
-
 pub celled-none : (ls rs : List ℕ) → ls ≡ replicate 128 0 → rs ≡ replicate 128 0 → Celled ls rs
 celled-none ls rs dl dr = record {
   left = ap length dl;
@@ -198,71 +193,40 @@ module _ (v u : View) (z l r ls rs : List ℕ) where
         on = covered-trans ls′ rs′ 64 ls″ rs″ 64 (b .kept) _ _
 
 -- The table covers the tips of all paths of at most k links from x.
-pub record Reached (v u : View) (z : List ℕ) (x y k : ℕ) (ls rs : List ℕ) (n : ℕ) : Type 0 where
-  pub room : Room ls rs n
-  pub each : (p : List ℕ) → Trail v x p → length p ≤ k → Covered ls rs n (endOf v x p) (endsOver v u z (2 ^ y) p)
+pub record Reached (v u : View) (z : List ℕ) (x y k : ℕ) (ls rs : List ℕ) : Type 0 where
+  pub celled : Celled ls rs
+  pub each : (p : List ℕ) → Trail v x p → length p ≤ k → Covered ls rs 64 (endOf v x p) (endsOver v u z (2 ^ y) p)
 
 module _ (v u : View) (z : List ℕ) (x y : ℕ) where
-  -- the table with the one tip (x, {y}) covers that of the path with no links
-  pub reached-start : (ls rs : List ℕ) (a b : ℕ) → length ls ≡ 128 → length rs ≡ 128 → x < 64 → a ≡ 2 ^ x → b ≡ 2 ^ y
-      → Reached v u z x y 0 (set ls 0 a) (set rs 0 b) 1
+  -- a table that covers the tip (x, {y}) covers that of the path with no links
+  pub reached-start : (ls rs : List ℕ) (b : ℕ) → b ≡ 2 ^ y → (ls′ rs′ : List ℕ) → Cut ls rs x b ls′ rs′ → Reached v u z x y 0 ls′ rs′
   unfolding endOf endsOver
-  reached-start ls rs a b ll lr low da db = record {
-    room = record { left = length-set ls 0 a ∙ ll; right = length-set rs 0 b ∙ lr; few = omega arith };
-    each = λ p t l. none p l;
-  }
-    where
-      none : (p : List ℕ) → length p ≤ 0 → Covered (set ls 0 a) (set rs 0 b) 1 (endOf v x p) (endsOver v u z (2 ^ y) p)
-      none [] l = covered-by-has _ _ _ x (2 ^ y) (one-has ls rs x (2 ^ y) a b da db ll lr low)
-      none (j ∷ p) l = absurd (omega arith)
-
-  -- and so does a table with a class a cell that covers it
-  pub reached-cut : (ls rs : List ℕ) (b : ℕ) → b ≡ 2 ^ y → (ls′ rs′ : List ℕ) → Cut ls rs x b ls′ rs′ → Reached v u z x y 0 ls′ rs′ 64
-  unfolding endOf endsOver
-  reached-cut ls rs b d ls′ rs′ c = record { room = celled-room ls′ rs′ (c .celled); each = λ p t l. none p l }
+  reached-start ls rs b d ls′ rs′ c = record { celled = c .celled; each = λ p t l. none p l }
     where
       none : (p : List ℕ) → length p ≤ 0 → Covered ls′ rs′ 64 (endOf v x p) (endsOver v u z (2 ^ y) p)
       none [] l = rw (← d) (c .new)
       none (j ∷ p) l = absurd (omega arith)
 
-  module _ (k : ℕ) (ls rs : List ℕ) (n : ℕ) (h : Reached v u z x y k ls rs n) where
-    -- a table that covers those of this one and all one link beyond them covers those of one link more
-    reached-more : (ls′ rs′ : List ℕ) (n′ : ℕ) → Room ls′ rs′ n′ → ((a w : ℕ) → Has ls rs n a w → Covered ls′ rs′ n′ a w)
-        → ((a w j : ℕ) → Has ls rs n a w → Leaves v a j → Covered ls′ rs′ n′ (toOf v j) (stepWord u z w (labelOf v j) (toOf v j)))
-        → Reached v u z x y (k + 1) ls′ rs′ n′
-    reached-more ls′ rs′ n′ room kept beyond = record {
-      room = room;
-      each = λ p t l. ⊎-elim (λ e. longer p t e) (λ s. covered-trans ls rs n _ _ _ kept _ _ (h .each p t (omega arith))) (eq-or-lt-of-le l);
+  module _ (k : ℕ) (ls rs : List ℕ) (h : Reached v u z x y k ls rs) where
+    -- one that covers those of this one and all one link beyond them covers those of one link more
+    pub reached-onward : (ls′ rs′ : List ℕ) → Onward v u z ls rs 64 ls rs ls′ rs′ → Reached v u z x y (k + 1) ls′ rs′
+    reached-onward ls′ rs′ f = record {
+      celled = f .celled;
+      each = λ p t l. ⊎-elim (λ e. longer p t e) (λ s. covered-trans ls rs 64 _ _ _ (f .kept) _ _ (h .each p t (omega arith))) (eq-or-lt-of-le l);
     }
       where
-        longer : (p : List ℕ) → Trail v x p → length p ≡ k + 1 → Covered ls′ rs′ n′ (endOf v x p) (endsOver v u z (2 ^ y) p)
+        longer : (p : List ℕ) → Trail v x p → length p ≡ k + 1 → Covered ls′ rs′ 64 (endOf v x p) (endsOver v u z (2 ^ y) p)
         longer p t e = by (last v u z x (2 ^ y) k p t (omega arith))
           where
             -- a link beyond a tip that is covered
-            on : (a w j : ℕ) → Covered ls rs n a w → Leaves v a j → Covered ls′ rs′ n′ (toOf v j) (stepWord u z w (labelOf v j) (toOf v j))
-            on a w j g t = covered-wider _ _ _ _ _ _ (beyond a (g .word) j (g .has) t) (step-inside u z (g .word) w (labelOf v j) (toOf v j) (g .inside))
+            on : (a w j : ℕ) → Covered ls rs 64 a w → Leaves v a j → Covered ls′ rs′ 64 (toOf v j) (stepWord u z w (labelOf v j) (toOf v j))
+            on a w j g t = covered-wider _ _ _ _ _ _ (f .whole a (g .word) j (g .has) t) (step-inside u z (g .word) w (labelOf v j) (toOf v j) (g .inside))
 
-            by : Last v u z x (2 ^ y) k p → Covered ls′ rs′ n′ (endOf v x p) (endsOver v u z (2 ^ y) p)
+            by : Last v u z x (2 ^ y) k p → Covered ls′ rs′ 64 (endOf v x p) (endsOver v u z (2 ^ y) p)
             by s = rw (s .end, s .word) (on _ _ (s .link) (h .each (s .front) (s .trail) (omega (arith, s .long))) (s .leaves))
 
-    pub reached-next : Opened (v .starts) (v .to) → (labels : List ℕ) (many : ℕ) → Named (v .starts) (v .labels) labels many
-        → (ls′ rs′ : List ℕ) (p : Part) → Filled v u z labels many ls rs n 0 ls rs n ls′ rs′ p → 128 * many ≤ p .next
-        → Reached v u z x y (k + 1) ls′ rs′ (p .count)
-    reached-next o labels many names ls′ rs′ part f all = reached-more ls′ rs′ (part .count) (f .room) (f .kept) beyond
-      where
-        beyond : (a w j : ℕ) → Has ls rs n a w → Leaves v a j → Covered ls′ rs′ (part .count) (toOf v j) (stepWord u z w (labelOf v j) (toOf v j))
-        beyond a w j g t =
-            let (i, b, c) = names .each j (leaves-below v o a j (g .cell) t) in
-            rw (← g .word) (f .whole (g .class) i a j
-            (record { class = g .below; label = b; cell = g .cell; inside = g .inside; leaves = t; named = sym c })
-            (omega arith) (omega (arith, g .below, h .room .few)))
-
-    pub reached-onward : (ls′ rs′ : List ℕ) → n ≡ 64 → Onward v u z ls rs 64 ls rs ls′ rs′ → Reached v u z x y (k + 1) ls′ rs′ 64
-    reached-onward ls′ rs′ d f =
-        reached-more ls′ rs′ 64 (celled-room ls′ rs′ (f .celled)) (λ a w g. f .kept a w (rw d at g)) (λ a w j g t. f .whole a w j (rw d at g) t)
-
     -- where no two tips of the table fail, no two paths do
-    pub reached-none : (c : ℕ) → c ≤ k → (ea eb : List ℕ) (f : Bool) → Met ea eb ls rs n ls rs n f → not f ≡ true → NoneFails v u z ea eb x y c
+    pub reached-none : (c : ℕ) → c ≤ k → (ea eb : List ℕ) (f : Bool) → Met ea eb ls rs 64 ls rs 64 f → not f ≡ true → NoneFails v u z ea eb x y c
     unfolding failure alone fault
     reached-none c l ea eb f m e = record {
       each = λ p q tp lp tq lq.

@@ -1,13 +1,15 @@
--- Tables with one class a cell, and what a quick decision says of all paths of at most c links.
-use mathlib.Core.Bool.{So}
+-- Tables with one class a cell, tables by what comparisons see, and what a quick decision says of all paths of at most c links.
+use mathlib.Core.Bool.{false, So}
 use mathlib.Core.Path.{_≡_}
 use mathlib.Core.List.{List}
 use Prim.Native.Nat.{ℕ, _≤_, _<_}
 use lib.ListN.{length, getD}
 use Rattle.words.specs.Words.{bit}
 use Rattle.hops.specs.Hops.{View, labelOf, toOf}
-use Rattle.tables.specs.Tips.{Has, Covered}
-use Rattle.classes.specs.Paths.{Leaves, Trail, stepWord}
+use Rattle.hops.specs.Sets.{spread, rowAt}
+use Rattle.tables.specs.declared.Grown.{Grown}
+use Rattle.tables.specs.Tips.{Has, Covered, Room}
+use Rattle.classes.specs.Paths.{Leaves, Trail, endOf, stepWord, endsOver}
 use Rattle.routes.specs.Pairs.{failure}
 
 -- A table of 64 classes, of which class e has no other node than e.
@@ -33,6 +35,24 @@ pub record Onward (v u : View) (z l r : List ℕ) (n : ℕ) (ls rs ls′ rs′ :
   pub celled : Celled ls′ rs′
   pub kept : (a o : ℕ) → Has ls rs 64 a o → Covered ls′ rs′ 64 a o
   pub whole : (a o k : ℕ) → Has l r n a o → Leaves v a k → Covered ls′ rs′ 64 (toOf v k) (stepWord u z o (labelOf v k) (toOf v k))
+
+-- The nodes that pass same with a node of w: what comparisons see of w.
+abbrev pub sharing : List ℕ → ℕ → ℕ
+sharing ends w = spread (rowAt ends 0) w
+
+-- The table covers what it covered, and unless it was full, the tips of the first m classes of another, each with what comparisons see of its set.
+pub record Shared (eb l r : List ℕ) (m : ℕ) (ls rs : List ℕ) (n : ℕ) (ls′ rs′ : List ℕ) (g : Grown) : Type 0 where
+  pub room : Room ls′ rs′ (g .count)
+  pub kept : (a o : ℕ) → Has ls rs n a o → Covered ls′ rs′ (g .count) a o
+  pub whole : g .full ≡ false → (a o : ℕ) → Has l r m a o → Covered ls′ rs′ (g .count) a (sharing eb o)
+
+-- The table covers what it covered, and unless it was full, the tips of all paths of at most d links from those of another, each with what
+-- comparisons see of its set.
+pub record Gathered (v u : View) (z eb l r : List ℕ) (m d : ℕ) (ls rs : List ℕ) (n : ℕ) (ls′ rs′ : List ℕ) (g : Grown) : Type 0 where
+  pub room : Room ls′ rs′ (g .count)
+  pub kept : (a o : ℕ) → Has ls rs n a o → Covered ls′ rs′ (g .count) a o
+  pub whole : g .full ≡ false → (a o : ℕ) (s : List ℕ) → Has l r m a o → Trail v a s → length s ≤ d
+      → Covered ls′ rs′ (g .count) (endOf v a s) (sharing eb (endsOver v u z o s))
 
 -- No two paths of at most c links from x fail.
 pub record NoneFails (v u : View) (z ea eb : List ℕ) (x y c : ℕ) : Type 0 where

@@ -116,7 +116,7 @@ module _ (v u : View) (z ea eb : List ℕ) (turned : Bool) (ql qr : List ℕ) (q
             let m : Moves v labels many pl pn (h .class) i x k = record { class = h .below; label = a; cell = h .cell; inside = h .inside; leaves = t; named = sym c } in
             rw (← h .word) (b .each (h .class) i x k s m (omega (arith, h .below)) r (omega arith))
 
-    module _ (at : ℕ) (ls₀ rs₀ ls rs : List ℕ) (p : Part) (f : Bool) (more : ℕ) (g : Filled v u z labels many pl pr pn at ls₀ rs₀ 0 ls rs p)
+    module _ (at : ℕ) (ls rs : List ℕ) (p : Part) (f : Bool) (more : ℕ) (g : Filled v u z labels many pl pr pn at ls rs p)
         (h : Searched v u z ea eb turned ls rs (p .count) (more - 1) ql qr qn j f) where
       pub below-next : f ≡ false → Below (more - 1) at → Below (more - 1) (p .next)
       below-next q b = record {
@@ -134,9 +134,9 @@ module _ (v u : View) (z ea eb : List ℕ) (turned : Bool) (ql qr : List ℕ) (q
       below-found q pos r d = record { some = λ _. by (h .some q); none = λ e. never (sym e ∙ d) }
         where
           by : Hitting v u z ea eb turned ls rs (p .count) (more - 1) ql qr qn j → Hitting v u z ea eb turned pl pr pn more ql qr qn j
-          by c = ⊎-elim
-              (λ i. absurd (omega (arith, i .below)))
-              (λ b. record {
+          by c =
+              let b = g .sound _ _ (c .runs .has) in
+              record {
                 cell = b .cell;
                 word = b .word;
                 path = b .link ∷ c .path;
@@ -146,8 +146,7 @@ module _ (v u : View) (z ea eb : List ℕ) (turned : Bool) (ql qr : List ℕ) (q
                   long = omega (arith, c .runs .long, pos-of-ne-zero pos);
                 };
                 hit = rw (b .leads .to, b .leads .word) (c .hit);
-              })
-              (g .sound _ _ (c .runs .has))
+              }
 
   -- ---- the table with the one tip (x, w)
   pub told-one : (ls rs : List ℕ) (x w a : ℕ) → a ≡ 2 ^ x → length ls ≡ 128 → length rs ≡ 128 → x < 64 → (d : ℕ) (f : Bool)

@@ -151,7 +151,6 @@ fn seek(
             at,
             &mut l,
             &mut r,
-            0,
         );
         if seek(
             sa,

@@ -3,6 +3,7 @@
 ghost use mathlib.Core.Path.{_≡_};
 ghost use Prim.Native.Nat.{_+_, _≤_};
 ghost use Rattle.hops.specs.Hops.{viewOf};
+ghost use Rattle.hops.specs.Sets.{Valued};
 ghost use Rattle.search.specs.Lengths.{Ready, Outcome, Total, Most, Single};
 ghost use Rattle.search.specs.Reasons.{stepsOf, Answered};
 use routes::Pair;
@@ -79,7 +80,7 @@ fn by_total(
     y: u8,
     c: u8,
 ) -> Pair
-    requires { ⌜ Ready (now sa) (now ta) (now sb) (now tb) x y × (c ≤ 4) ⌝ }
+    requires { ⌜ Ready (now sa) (now ta) (now sb) (now tb) x y × (c ≤ 4) × Valued (now eb) ⌝ }
     ensures { λ r. ⌜ Outcome (viewOf (now (sa .entry)) (now (la .entry)) (now (ta .entry))) (viewOf (now (sb .entry)) (now (lb .entry)) (now (tb .entry))) (now (z .entry)) (now (ea .entry)) (now (eb .entry)) x y (Most c) r ⌝ }
 {
     let mut s = 0u8;
@@ -141,7 +142,7 @@ pub fn reason_for(
     y: u8,
     c: u8,
 ) -> Reason
-    requires { ⌜ Ready (now sa) (now ta) (now sb) (now tb) x y × (c ≤ 4) ⌝ }
+    requires { ⌜ Ready (now sa) (now ta) (now sb) (now tb) x y × (c ≤ 4) × Valued (now eb) ⌝ }
     ensures { λ r. ⌜ Answered (viewOf (now (sa .entry)) (now (la .entry)) (now (ta .entry))) (viewOf (now (sb .entry)) (now (lb .entry)) (now (tb .entry))) (now (z .entry)) (now (ea .entry)) (now (eb .entry)) x y c r ⌝ }
 {
     let link = one_link(sa, la, ta, sb, lb, tb, z, x, y);

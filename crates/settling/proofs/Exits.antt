@@ -16,9 +16,10 @@ use Rattle.book.specs.Accepted.{book-sizes, book-graph, cell-few}
 use Rattle.sheet.specs.Entry.{Entry}
 use Rattle.sheet.specs.Encoding.{encode}
 use Rattle.hops.specs.Hops.{viewOf}
+use Rattle.hops.specs.Sets.{Valued}
 use Rattle.search.specs.Lengths.{Ready}
 use Rattle.search.specs.Reasons.{Posed, Answered, reasonOf}
-use Rattle.search.specs.BookReasons.{read-ready, read-posed}
+use Rattle.search.specs.BookReasons.{read-valued, read-ready, read-posed}
 use Rattle.search.specs.Laws.{answer-some, answer-fails, answer-chosen-none, answer-none}
 use Rattle.search.specs.declared.Reason.{Reason}
 use Rattle.refinement.specs.Places.{place-below}
@@ -58,6 +59,12 @@ module _ (left right sa la ta ea sb lb tb eb : List ℕ) (c start place : ℕ) (
   pub back-ready : Ready sb tb sa ta b a
   back-ready =
       read-ready right (books .rightFrom) lb tb sb eb (books .rightRead) left (books .leftFrom) la ta sa ea (books .leftRead) b a (at .rightCell) (at .leftCell)
+
+  pub ahead-valued : Valued eb
+  ahead-valued = read-valued right (books .rightFrom) lb tb sb eb (books .rightRead)
+
+  pub back-valued : Valued ea
+  back-valued = read-valued left (books .leftFrom) la ta sa ea (books .leftRead)
 
   ahead-posed : Posed (graphOf left) (graphOf right) z (viewOf sa la ta) (viewOf sb lb tb) rows ea eb a b
   ahead-posed =

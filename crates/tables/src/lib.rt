@@ -102,7 +102,7 @@ pub struct Grown {
 }
 
 // Puts the tips of the cells with the set w into a table of n classes, but for those that it covers, if there is room.
-fn put(lefts: &mut [u64; 128], rights: &mut [u64; 128], n: usize, cells: u64, w: u64) -> Grown
+pub fn put(lefts: &mut [u64; 128], rights: &mut [u64; 128], n: usize, cells: u64, w: u64) -> Grown
     requires { ⌜ Room (now lefts) (now rights) n ⌝ }
     ensures { λ r. ⌜ Put (now (lefts .entry)) (now (rights .entry)) n cells w (now (lefts .exit)) (now (rights .exit)) r ⌝ }
 {

@@ -10,10 +10,10 @@ use Rattle.classes.proofs.fill.Statement.{statement}
 use Rattle.classes.proofs.fill.Tie as tie
 
 abbrev Inv-loop : tie.InvT-loop
-Inv-loop sa la ta sb lb tb z labels many lefts rights n at ends₀ sets₀ have here there rows₀ count₀ i₀ from₀ ends sets rows count i from = Opened sa ta × Opened sb tb × (many ≤ 512) × (n ≤ 128) × Unites lefts n here × Unites rights n there × (length rows ≡ 128) × Filling (viewOf sa la ta) (viewOf sb lb tb) z labels many lefts rights n at ends₀ sets₀ have ends sets count i from
+Inv-loop sa la ta sb lb tb z labels many lefts rights n at ends₀ sets₀ here there rows₀ count₀ i₀ from₀ ends sets rows count i from = Opened sa ta × Opened sb tb × (many ≤ 512) × (n ≤ 128) × Unites lefts n here × Unites rights n there × (length rows ≡ 128) × Filling (viewOf sa la ta) (viewOf sb lb tb) z labels many lefts rights n at ends sets count i from
 
 abbrev μ-loop : tie.MeasureT-loop
-μ-loop sa la ta sb lb tb z labels many lefts rights n at ends₀ sets₀ have here there rows₀ count₀ i₀ from₀ ends sets rows count i from = many - i
+μ-loop sa la ta sb lb tb z labels many lefts rights n at ends₀ sets₀ here there rows₀ count₀ i₀ from₀ ends sets rows count i from = many - i
 
 union-of-requires : tie.Need-union-of-requires Inv-loop μ-loop
 union-of-requires c κs = search needs
@@ -45,14 +45,14 @@ put-rows-requires-2 c κs = (search needs, omega arith, search needs)
 fill-label-requires : tie.Need-fill-label-requires Inv-loop μ-loop
 fill-label-requires c κs = search needs
 
-mul-t37 : tie.Need-mul-t37 Inv-loop μ-loop
-mul-t37 c = omega arith
+mul-t36 : tie.Need-mul-t36 Inv-loop μ-loop
+mul-t36 c = omega arith
 
-add-t38 : tie.Need-add-t38 Inv-loop μ-loop
-add-t38 c = omega (arith, c .before .before .fill-label .ensures .full (c .before .if1 .taken) .0)
+add-t37 : tie.Need-add-t37 Inv-loop μ-loop
+add-t37 c = omega (arith, c .before .before .fill-label .ensures .full (c .before .if1 .taken) .0)
 
 returns : tie.Need-returns Inv-loop μ-loop
-returns c = filling-full _ _ _ _ _ _ _ _ _ _ _ _ _ _ _ _ _ (c .before .before .before .before .before .before .before .before .before .before .before .before .before .loop .inv .7) (c .before .before .before .before .before .before .before .before .before .before .before .before .before .loop .inv .3) _ _ (c .before .before .before .before .before .before .before .before .before .before .before .before .before .loop .inv .4) (c .before .before .before .before .before .before .before .before .before .before .before .before .before .loop .inv .5) _ _ _ _ refl (c .before .before .before .before .before .before .before .before .before .put-rows .ensures) (c .before .before .before .before .before .before .put-rows2 .ensures) (c .before .before .before .before .before .before .before .before .before .before .before .before .loop-test .taken) _ _ _ (c .before .before .fill-label .ensures) (c .before .before .before .before .before .before .before .before .before .before .before .before .before .loop .inv .0) (c .before .if1 .taken) _ refl refl
+returns c = filling-full _ _ _ _ _ _ _ _ _ _ _ _ _ _ (c .before .before .before .before .before .before .before .before .before .before .before .before .before .loop .inv .7) (c .before .before .before .before .before .before .before .before .before .before .before .before .before .loop .inv .3) _ _ (c .before .before .before .before .before .before .before .before .before .before .before .before .before .loop .inv .4) (c .before .before .before .before .before .before .before .before .before .before .before .before .before .loop .inv .5) _ _ _ _ refl (c .before .before .before .before .before .before .before .before .before .put-rows .ensures) (c .before .before .before .before .before .before .put-rows2 .ensures) (c .before .before .before .before .before .before .before .before .before .before .before .before .loop-test .taken) _ _ _ (c .before .before .fill-label .ensures) (c .before .before .before .before .before .before .before .before .before .before .before .before .before .loop .inv .0) (c .before .if1 .taken) _ refl refl
 
 add-i : tie.Need-add-i Inv-loop μ-loop
 add-i c = search needs
@@ -61,13 +61,13 @@ loop-less : tie.Need-loop-less Inv-loop μ-loop
 loop-less c = search needs
 
 loop-again : tie.Need-loop-again Inv-loop μ-loop
-loop-again c = (search needs, search needs, search needs, search needs, search needs, search needs, search needs, filling-next _ _ _ _ _ _ _ _ _ _ _ _ _ _ _ _ _ (c .before .before .before .before .before .before .before .before .before .before .before .before .loop .inv .7) (c .before .before .before .before .before .before .before .before .before .before .before .before .loop .inv .3) _ _ (c .before .before .before .before .before .before .before .before .before .before .before .before .loop .inv .4) (c .before .before .before .before .before .before .before .before .before .before .before .before .loop .inv .5) _ _ _ _ refl (c .before .before .before .before .before .before .before .before .put-rows .ensures) (c .before .before .before .before .before .put-rows2 .ensures) (c .before .before .before .before .before .before .before .before .before .before .before .loop-test .taken) _ _ _ (c .before .fill-label .ensures) (c .before .before .before .before .before .before .before .before .before .before .before .before .loop .inv .0) (c .if1 .left))
+loop-again c = (search needs, search needs, search needs, search needs, search needs, search needs, search needs, filling-next _ _ _ _ _ _ _ _ _ _ _ _ _ _ (c .before .before .before .before .before .before .before .before .before .before .before .before .loop .inv .7) (c .before .before .before .before .before .before .before .before .before .before .before .before .loop .inv .3) _ _ (c .before .before .before .before .before .before .before .before .before .before .before .before .loop .inv .4) (c .before .before .before .before .before .before .before .before .before .before .before .before .loop .inv .5) _ _ _ _ refl (c .before .before .before .before .before .before .before .before .put-rows .ensures) (c .before .before .before .before .before .put-rows2 .ensures) (c .before .before .before .before .before .before .before .before .before .before .before .loop-test .taken) _ _ _ (c .before .fill-label .ensures) (c .before .before .before .before .before .before .before .before .before .before .before .before .loop .inv .0) (c .if1 .left))
 
-mul-t39 : tie.Need-mul-t39 Inv-loop μ-loop
-mul-t39 c = search needs
+mul-t38 : tie.Need-mul-t38 Inv-loop μ-loop
+mul-t38 c = search needs
 
 returns-2 : tie.Need-returns-2 Inv-loop μ-loop
-returns-2 c = filling-end _ _ _ _ _ _ _ _ _ _ _ _ _ _ _ _ _ (c .before .loop .inv .7) (c .before .loop .inv .3) (c .loop-test .left) _ refl refl
+returns-2 c = filling-end _ _ _ _ _ _ _ _ _ _ _ _ _ _ (c .before .loop .inv .7) (c .before .loop .inv .3) (c .loop-test .left) _ refl refl
 
 pub fill-spec : {M : Type 1} → statement M
 fill-spec =
@@ -85,11 +85,11 @@ fill-spec =
     element-copy-out-put-rows-2
     put-rows-requires-2
     fill-label-requires
-    mul-t37
-    add-t38
+    mul-t36
+    add-t37
     returns
     add-i
     loop-less
     loop-again
-    mul-t39
+    mul-t38
     returns-2)

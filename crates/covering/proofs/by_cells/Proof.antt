@@ -5,13 +5,12 @@ use borrow.Author.Needs.{needs}
 use mathlib.Core.Path.{refl}
 use Rattle.hops.specs.Hops.{viewOf}
 use Rattle.routes.specs.Pairs.{Asked}
-use Rattle.covering.specs.Covering.{Celled}
-use Rattle.covering.proofs.Levels.{Reached, celled-none, reached-cut, reached-onward, reached-none}
+use Rattle.covering.proofs.Levels.{Reached, celled-none, reached-start, reached-onward, reached-none}
 use Rattle.covering.proofs.by_cells.Statement.{statement}
 use Rattle.covering.proofs.by_cells.Tie as tie
 
 abbrev Inv-loop : tie.InvT-loop
-Inv-loop sa la ta ea sb lb tb eb z x y c lefts₀ rights₀ k₀ lefts rights k = Asked sa ta sb tb x y c c × (k ≤ c) × Celled lefts rights × Reached (viewOf sa la ta) (viewOf sb lb tb) z x y k lefts rights 64
+Inv-loop sa la ta ea sb lb tb eb z x y c lefts₀ rights₀ k₀ lefts rights k = Asked sa ta sb tb x y c c × (k ≤ c) × Reached (viewOf sa la ta) (viewOf sb lb tb) z x y k lefts rights
 
 abbrev μ-loop : tie.MeasureT-loop
 μ-loop sa la ta ea sb lb tb eb z x y c lefts₀ rights₀ k₀ lefts rights k = c - k
@@ -23,7 +22,7 @@ cut-requires : tie.Need-cut-requires Inv-loop μ-loop
 cut-requires c κs = (celled-none _ _ refl refl, search needs)
 
 loop-holds : tie.Need-loop-holds Inv-loop μ-loop
-loop-holds c = (search needs, omega arith, search needs, search reached-cut)
+loop-holds c = (search needs, omega arith, search reached-start)
 
 cut-cells-requires : tie.Need-cut-cells-requires Inv-loop μ-loop
 cut-cells-requires c κs = search needs
@@ -35,13 +34,13 @@ loop-less : tie.Need-loop-less Inv-loop μ-loop
 loop-less c = search needs
 
 loop-again : tie.Need-loop-again Inv-loop μ-loop
-loop-again c = (search needs, omega arith, search needs, search reached-onward)
+loop-again c = (search needs, omega arith, search reached-onward)
 
 two-tips-requires : tie.Need-two-tips-requires Inv-loop μ-loop
 two-tips-requires c κs = search needs
 
 returns : tie.Need-returns Inv-loop μ-loop
-returns c = λ e. reached-none _ _ _ _ _ _ _ _ _ (c .before .before .before .before .before .before .loop .inv .3) _ (c .before .before .before .before .before .loop-test .left) _ _ _ (c .two-tips .ensures) e
+returns c = λ e. reached-none _ _ _ _ _ _ _ _ (c .before .before .before .before .before .before .loop .inv .2) _ (c .before .before .before .before .before .loop-test .left) _ _ _ (c .two-tips .ensures) e
 
 pub by-cells-spec : {M : Type 1} → statement M
 by-cells-spec =

@@ -9,11 +9,11 @@ by-cells-requires c κs = search needs
 returns : tie.Need-returns
 returns c = λ _. c .before .by-cells .ensures (c .if1 .taken)
 
-by-classes-requires : tie.Need-by-classes-requires
-by-classes-requires c κs = search needs
+by-values-requires : tie.Need-by-values-requires
+by-values-requires c κs = search needs
 
 returns-2 : tie.Need-returns-2
 returns-2 c = search needs
 
 pub none-fails-spec : {M : Type 1} → statement M
-none-fails-spec = tie.close (tie.spec by-cells-requires returns by-classes-requires returns-2)
+none-fails-spec = tie.close (tie.spec by-cells-requires returns by-values-requires returns-2)

@@ -65,13 +65,13 @@ seek-seek-requires-2 : (t : ℕ) → seek-lts.Need-seek-requires-2 (given t) (se
 seek-seek-requires-2 t c κs = (link-less _ _ _ _ (c .before .before .before .before .before .before .before .before .pre .0) (c .before .before .before .before .before .before .loop .inv .4), (record { left = search needs; right = search needs; named = search needs; firsts = search needs; seconds = search needs }, omega arith, search needs, search needs))
 
 seek-returns-3 : (t : ℕ) → seek-lts.Need-returns-3 (given t) (seek-at t) seek.Post seek-Inv-loop seek-μ-loop
-seek-returns-3 t c = below-found _ _ _ _ _ _ _ _ _ _ _ _ _ _ _ _ _ _ _ _ _ _ _ (c .before .before .before .before .fill .ensures) (c .before .seek2 .ensures) (c .if3 .taken) (c .before .before .before .before .before .before .before .before .loop .inv .4) _ refl
+seek-returns-3 t c = below-found _ _ _ _ _ _ _ _ _ _ _ _ _ _ _ _ _ _ _ _ _ (c .before .before .before .before .fill .ensures) (c .before .seek2 .ensures) (c .if3 .taken) (c .before .before .before .before .before .before .before .before .loop .inv .4) _ refl
 
 seek-loop-less : (t : ℕ) → seek-lts.Need-loop-less (given t) (seek-at t) seek.Post seek-Inv-loop seek-μ-loop
-seek-loop-less t c = omega (arith, c .before .before .before .before .fill .ensures .further (omega arith) (c .before .before .before .before .before .before .before .loop-test .taken))
+seek-loop-less t c = omega (arith, c .before .before .before .before .fill .ensures .further (c .before .before .before .before .before .before .before .loop-test .taken))
 
 seek-loop-again : (t : ℕ) → seek-lts.Need-loop-again (given t) (seek-at t) seek.Post seek-Inv-loop seek-μ-loop
-seek-loop-again t c = (search needs, search needs, search needs, search needs, search needs, search needs, record { left = c .before .before .before .before .fill .ensures .room .left; right = c .before .before .before .before .fill .ensures .room .right; few = omega arith }, below-next _ _ _ _ _ _ _ _ _ _ _ _ _ _ _ _ _ _ _ _ _ _ _ (c .before .before .before .before .fill .ensures) (c .before .seek2 .ensures) (c .if3 .left) (c .before .before .before .before .before .before .before .before .loop .inv .7))
+seek-loop-again t c = (search needs, search needs, search needs, search needs, search needs, search needs, record { left = c .before .before .before .before .fill .ensures .room .left; right = c .before .before .before .before .fill .ensures .room .right; few = omega arith }, below-next _ _ _ _ _ _ _ _ _ _ _ _ _ _ _ _ _ _ _ _ _ (c .before .before .before .before .fill .ensures) (c .before .seek2 .ensures) (c .if3 .left) (c .before .before .before .before .before .before .before .before .loop .inv .7))
 
 seek-returns-4 : (t : ℕ) → seek-lts.Need-returns-4 (given t) (seek-at t) seek.Post seek-Inv-loop seek-μ-loop
 seek-returns-4 t c = below-end _ _ _ _ _ _ _ _ _ _ _ _ _ _ _ (c .before .loop .inv .0 .left) (c .before .loop .inv .0 .named) _ _ (c .before .loop .inv .4) _ refl (c .loop-test .left) (c .before .loop .inv .0 .firsts) (c .before .loop .inv .7)

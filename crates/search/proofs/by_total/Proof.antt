@@ -3,25 +3,26 @@ use native.Mathlib.Omega.{arith}
 use borrow.Author.Needs.{needs}
 use Prim.Native.Nat.{_+_, _-_, _≤_}
 use Rattle.hops.specs.Hops.{viewOf}
+use Rattle.hops.specs.Sets.{Valued}
 use Rattle.search.specs.Lengths.{Ready}
 use Rattle.search.proofs.Ranges.{asked, TotalsTo, totals-start, totals-none, totals-next, totals-end, totals-found}
 use Rattle.search.proofs.by_total.Statement.{statement}
 use Rattle.search.proofs.by_total.Tie as tie
 
 abbrev Inv-loop : tie.InvT-loop
-Inv-loop sa la ta ea sb lb tb eb z x y c s₀ s = Ready sa ta sb tb x y × (c ≤ 4) × (s ≤ c + c + 1) × TotalsTo (viewOf sa la ta) (viewOf sb lb tb) z ea eb x y c s
+Inv-loop sa la ta ea sb lb tb eb z x y c s₀ s = Ready sa ta sb tb x y × (c ≤ 4) × (s ≤ c + c + 1) × TotalsTo (viewOf sa la ta) (viewOf sb lb tb) z ea eb x y c s × Valued eb
 
 abbrev μ-loop : tie.MeasureT-loop
 μ-loop sa la ta ea sb lb tb eb z x y c s₀ s = c + c + 1 - s
 
 loop-holds : tie.Need-loop-holds Inv-loop μ-loop
-loop-holds c = (search needs, omega arith, omega arith, totals-start _ _ _ _ _ _ _ _)
+loop-holds c = (search needs, omega arith, omega arith, totals-start _ _ _ _ _ _ _ _, search needs)
 
 add-loop : tie.Need-add-loop Inv-loop μ-loop
 add-loop c = omega arith
 
 none-fails-requires : tie.Need-none-fails-requires Inv-loop μ-loop
-none-fails-requires c κs = search asked
+none-fails-requires c κs = (search asked, search needs)
 
 no-pair-requires : tie.Need-no-pair-requires Inv-loop μ-loop
 no-pair-requires c κs = search needs
@@ -42,7 +43,7 @@ loop-less : tie.Need-loop-less Inv-loop μ-loop
 loop-less c = omega arith
 
 loop-again : tie.Need-loop-again Inv-loop μ-loop
-loop-again c = (search needs, omega arith, omega arith, totals-next _ _ _ _ _ _ _ _ _ (c .before .before .before .before .before .loop .inv .3) _ (c .before .before .by-lengths .ensures) (c .if3 .left))
+loop-again c = (search needs, omega arith, omega arith, totals-next _ _ _ _ _ _ _ _ _ (c .before .before .before .before .before .loop .inv .3) _ (c .before .before .by-lengths .ensures) (c .if3 .left), search needs)
 
 no-pair-requires-2 : tie.Need-no-pair-requires-2 Inv-loop μ-loop
 no-pair-requires-2 c κs = search needs

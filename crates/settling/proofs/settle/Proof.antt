@@ -1,11 +1,11 @@
 -- `settling::settle` meets its contract. Assumes nothing.
 use borrow.Author.Needs.{needs}
-use Rattle.settling.proofs.Exits.{bounded, ahead-ready, ahead-fits, ahead-settled, back-ready, back-fits, back-settled, stays-settled}
+use Rattle.settling.proofs.Exits.{bounded, ahead-ready, ahead-valued, ahead-fits, ahead-settled, back-ready, back-valued, back-fits, back-settled, stays-settled}
 use Rattle.settling.proofs.settle.Statement.{statement}
 use Rattle.settling.proofs.settle.Tie as tie
 
 reason-for-requires : tie.Need-reason-for-requires
-reason-for-requires c κs = (search ahead-ready, search bounded)
+reason-for-requires c κs = (search ahead-ready, search bounded, search ahead-valued)
 
 part-requires : tie.Need-part-requires
 part-requires c κs = search ahead-fits
@@ -20,7 +20,7 @@ returns : tie.Need-returns
 returns c = search ahead-settled
 
 reason-for-requires-2 : tie.Need-reason-for-requires-2
-reason-for-requires-2 c κs = (search back-ready, search bounded)
+reason-for-requires-2 c κs = (search back-ready, search bounded, search back-valued)
 
 part-requires-2 : tie.Need-part-requires-2
 part-requires-2 c κs = search back-fits
