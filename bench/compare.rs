@@ -3,6 +3,7 @@
 mod calls;
 mod clock;
 mod families;
+#[path = "../tests/plain/compare.rs"]
 mod plain_compare;
 #[path = "../tests/support/mod.rs"]
 mod support;

@@ -1,6 +1,7 @@
 //! Texts of questions, and their lengths alone: the library beside plain Rust of the same method, on the same inputs in one run.
 
 mod clock;
+#[path = "../tests/plain/texts.rs"]
 mod plain_texts;
 mod questions;
 #[path = "../tests/support/mod.rs"]

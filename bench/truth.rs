@@ -1,5 +1,6 @@
 //! Truth on 64 cells, 512 links and 16,385 entries: the library beside a plain Rust evaluator, on the same inputs in one run.
 
+#[path = "../tests/plain/truth.rs"]
 mod plain;
 #[path = "../tests/support/mod.rs"]
 mod support;

@@ -1,4 +1,5 @@
-/* A C caller of the two format checks: prints each answer taken apart. */
+/* A C caller of the two format checks: prints each answer taken apart. It stands for phrase_out.c, the firm's C program, which document 01 says "calls
+   the two checks with bytes and gets numbers". */
 #include <inttypes.h>
 #include <stdio.h>
 

@@ -4,7 +4,7 @@
 
 mod expected;
 mod inputs;
-#[path = "../../bench/plain_compare.rs"]
+#[path = "../plain/compare.rs"]
 mod plain_compare;
 mod refused_inputs;
 mod searches;

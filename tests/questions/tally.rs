@@ -1,6 +1,7 @@
 //! Compares the library with what is expected, call by call, and counts the answers.
 
 use crate::expected::{self, Asked};
+use crate::plain;
 use crate::support::counts::{Counts, OF_BOOK, OF_SHEET};
 use crate::support::hex;
 use crate::support::lent::Lent;
@@ -36,6 +37,15 @@ impl Tally {
     pub fn truth(&mut self, book: &[u8], sheet: &[u8], words: &[u64]) -> Vec<u64> {
         let (expected, expected_words) = expected::truth(book, sheet, words);
         self.expect_truth(book, sheet, words, expected, &expected_words);
+        let mut plain_words = words.to_vec();
+        let written = plain::truth(book, sheet, &mut plain_words);
+        if written != (expected.refusal == 0) || plain_words != expected_words {
+            panic!(
+                "Truth in plain Rust gives other words: book {}, sheet {}",
+                hex(book),
+                hex(sheet)
+            );
+        }
         if expected.refusal == 0 {
             let every = u64::MAX >> (64 - book[5]);
             let q = u16::from_be_bytes([sheet[6], sheet[7]]) as usize;

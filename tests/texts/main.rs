@@ -1,10 +1,13 @@
-//! The texts of questions and their lengths (document 02, request 2026-01), compared with a plain writer, and read back.
+//! The texts of questions and their lengths (document 02, request 2026-01), compared with a naive writer, with the library's method
+//! in plain Rust, and read back.
 
 mod alike;
 mod chains;
 mod expected;
 mod inputs;
 mod lengths;
+#[path = "../plain/texts.rs"]
+mod plain;
 mod question;
 mod reading;
 mod references;
@@ -24,5 +27,5 @@ fn main() {
     lengths::all(&mut tally);
     refused_inputs::all(&mut tally);
     let cases = tally.report();
-    println!("texts: the library, the plain writer and the reader agree in {cases} cases");
+    println!("texts: the library, its method in plain Rust, the naive writer and the reader agree in {cases} cases");
 }

@@ -1,6 +1,7 @@
 //! Compares the library with what is expected, call by call, and counts the answers.
 
 use crate::expected::Expected;
+use crate::plain;
 use crate::reading::read;
 use crate::support::call::Call;
 use crate::support::counts::{Counts, OF_SHEET};
@@ -78,6 +79,9 @@ impl Tally {
         };
         call.compare(answer, expected.length(entry));
         call.unchanged(&lent, &expected.bytes);
+        if plain::question_length(&expected.bytes, entry) != answer {
+            call.fail("plain Rust gives another length");
+        }
         self.length.count(answer, "measured");
         self.turn += 1;
     }
@@ -96,6 +100,11 @@ impl Tally {
         };
         call.compare(answer, expected.text(entry, room));
         call.unchanged(&lent_sheet, &expected.bytes);
+        let mut plain_room = before.clone();
+        let plain_answer = plain::question_text(&expected.bytes, entry, &mut plain_room);
+        if plain_answer != answer || plain_room != lent_room.values() {
+            call.fail("plain Rust gives another answer or text");
+        }
         if answer.refusal != 0 {
             call.unchanged(&lent_room, &before);
         } else {
@@ -121,12 +130,14 @@ impl Tally {
         room: &mut [u8],
         text: &str,
     ) {
-        let answer = library::question_text(&expected.bytes, entry, room);
-        assert_eq!(answer, expected.text(entry, room.len()));
-        let written = &mut room[..answer.length()];
-        assert_eq!(written, text.as_bytes());
-        written.fill(0);
-        self.text.count(answer, "written");
+        for write in [library::question_text, plain::question_text] {
+            let answer = write(&expected.bytes, entry, room);
+            assert_eq!(answer, expected.text(entry, room.len()));
+            let written = &mut room[..answer.length()];
+            assert_eq!(written, text.as_bytes());
+            written.fill(0);
+        }
+        self.text.count(expected.text(entry, room.len()), "written");
     }
 
     fn around(&self) -> u8 {

@@ -1,4 +1,4 @@
-//! A plain writer of questions: document 02, request 2026-01, line by line.
+//! A naive writer of questions: document 02, request 2026-01, line by line.
 
 use crate::question::{Question, Way};
 use std::fmt::{Display, Formatter, Result};

@@ -1,4 +1,4 @@
--- What each way out of Pair shows of the definitions of `specs/`, in the form in which `search` finds it (as `RowExits`). Assumes nothing.
+-- What each way out of Pair shows of the definitions of `specs/`, in the form in which `search` finds it (as `RowExits`).
 use mathlib.Core.List.{List}
 use mathlib.Core.Path.{_≡_, refl, sym, ap, _∙_}
 use Prim.Native.Nat.{ℕ, _^_, _≤_, _<_}
@@ -9,7 +9,7 @@ use mir.Val.{Fits}
 use lib.ListN.{length, getD}
 use Rattle.fields.specs.Fields.{Bytes}
 use Rattle.sheet.specs.Sheet.{countOf, entryStart, sheetRefusal, sheetAnswer}
-use Rattle.sheet.specs.Accepted.{answer-accepting, answer-refusing}
+use Rattle.sheet.specs.AcceptedLaws.{answer-accepting, answer-refusing}
 use Rattle.sheet.specs.declared.Question.{Question}
 use Rattle.sheet.specs.declared.SheetAnswer.{SheetAnswer}
 use Rattle.sheet.specs.declared.SheetAnswer.the-variants as sheet

@@ -1,5 +1,5 @@
 -- What each way out of Row shows of the definitions of `specs/`. The numbers that the code computed are variables here, with what is known
--- of them, so that `search` finds them in a need's record. Assumes nothing.
+-- of them, so that `search` finds them in a need's record.
 use mathlib.Core.Bool.{cond}
 use mathlib.Core.List.{List}
 use mathlib.Core.Path.{_≡_, refl, sym, ap, ap₂, _∙_}

@@ -1,4 +1,4 @@
--- An answer that is told as a number, for both operations. Assumes nothing.
+-- An answer that is told as a number, for both operations.
 use mathlib.Core.Path.{_≡_, sym, ap, _∙_}
 use Prim.Native.Nat.{ℕ}
 

@@ -1,4 +1,4 @@
--- Worked answers of Row and Pair, computed by the definitions. Assumes nothing.
+-- Worked answers of Row and Pair, computed by the definitions.
 use mathlib.Core.List.{List, [], _∷_}
 use mathlib.Core.Path.{_≡_, refl}
 use Prim.Native.Nat.{ℕ, _-_, _^_}

@@ -1,4 +1,4 @@
--- Laws of Pair: what each answer shows of the map and the sheet, and where the entry of a question starts. Assumes nothing.
+-- Laws of Pair: what each answer shows of the map and the sheet, and where the entry of a question starts.
 use mathlib.Core.Bool.{Bool, true, false, cond}
 use mathlib.Core.List.{List}
 use mathlib.Core.Logic.{_⊎_, inl, inr}
@@ -10,9 +10,9 @@ use lib.Dec.{eqb, ltb}
 use lib.ListN.{length, getD}
 use Rattle.fields.specs.Fields.{Bytes}
 use Rattle.sheet.specs.Entry.{truth}
-use Rattle.sheet.specs.Passed.{accepted-head}
+use Rattle.sheet.specs.PassedLaws.{accepted-head}
 use Rattle.sheet.specs.Sheet.{countOf, headSize, nextAt, startFrom, entriesOf, entryAt, entryStart, sheetRefusal}
-use Rattle.sheet.specs.Accepted.{accepted-standing, entriesOf-at}
+use Rattle.sheet.specs.AcceptedLaws.{accepted-standing, entriesOf-at}
 use Rattle.sheet.specs.declared.Question.{Question}
 use Rattle.answers.specs.Pair.{placeOf, questionAnswer, placeAnswer, pairAnswer}
 use Rattle.answers.specs.declared.PairAnswer.{PairAnswer}

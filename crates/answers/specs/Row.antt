@@ -36,12 +36,13 @@ unfoldable pub rowAnswer : List ℕ → ℕ → ℕ → RowAnswer
 rowAnswer map m i =
     cond (eqb (rowRefusal map m i) 0) (Row (rowWord map m i) (rowCount map m i)) (Refused (rowRefusal map m i))
 
--- 01's number and values for each answer: the count; a refusal speaks of the call itself.
+-- 01's number and values for each answer: the count; a refusal speaks of the call itself. The word has 64 bits and no room in an outcome: a caller that
+-- takes numbers asks for it by itself (`wordIn`).
 abbrev pub rowOutcome : RowAnswer → Outcome
 rowOutcome (Row word count) = accepted count 0
 rowOutcome (Refused r) = refused ofCall r
 
--- The word of an answer, 0 where it is a refusal.
+-- The word of an answer, 0 where it is a refusal: what the caller of `row_word` gets.
 abbrev pub wordIn : RowAnswer → ℕ
 wordIn (Row word count) = word
 wordIn (Refused r) = 0

@@ -1,5 +1,5 @@
--- Laws of Row: what a row that is not refused is, and what its word and its count say of the map. Assumes nothing.
-use mathlib.Core.Bool.{Bool, true, false, cond, _&&_, _||_}
+-- Laws of Row: what a row that is not refused is, and what its word and its count say of the map.
+use mathlib.Core.Bool.{Bool, true, false, cond, _||_}
 use mathlib.Core.List.{List}
 use mathlib.Core.Path.{_≡_, refl, sym, _∙_}
 use Prim.Native.Nat.{ℕ, _+_, _*_, _≤_}
@@ -10,7 +10,7 @@ use lib.Dec.{eqb, ltb}
 use lib.ListN.{length}
 use lib.Pow.{pow-mono}
 use Rattle.words.specs.Words.{bit, tally, wordOf}
-use Rattle.words.specs.Laws.{bit-wordOf, ones-tally, tally-le, tally-wordOf, wordOf-lt}
+use Rattle.words.specs.Laws.{ones-tally, tally-le, tally-wordOf, wordOf-lt}
 use Rattle.answers.specs.Row.{mostCells, rowRefusal, zeroFrom, rowWord, rowCount, rowAnswer}
 use Rattle.answers.specs.declared.RowAnswer.the-variants.{Row, Refused}
 
@@ -41,10 +41,6 @@ whole-row map m i w =
     simp (ne-eqb m 0 (λ z. omega (arith, w .some)), le-ltb mostCells m (w .most), le-ltb (length map) (i * m + m) (w .inside))
 
 -- ---- the word and the count
--- bit j is set where j is below m and the place holds 0
-pub bit-rowWord : (map : List ℕ) (m i j : ℕ) → bit (rowWord map m i) j ≡ ltb j m && zeroFrom map (i * m) j
-bit-rowWord map m i j = bit-wordOf m (zeroFrom map (i * m)) j
-
 -- the bits from n on of a word of n bits add nothing to the count
 pub tally-wordOf-more : (n k : ℕ) (p : ℕ → Bool) → n ≤ k → tally k (bit (wordOf n p)) ≡ tally n p
 tally-wordOf-more n k p h =

@@ -65,7 +65,7 @@ pub fn row(map: &[u16], m: usize, i: usize) -> RowAnswer
     RowAnswer::Row { word, count }
 }
 
-// The answer of `row` as one number: the refusal, or 2^16 × the count.
+// The answer of `row` as one number: the refusal, or 2^16 × the count. The word is not in it: `row_word` gives that (`wordIn`).
 pub fn row_code(map: &[u16], m: usize, i: usize) -> u64
     ensures { λ r. ⌜ r ≡ code (rowOutcome (rowAnswer (now (map .entry)) m i)) ⌝ }
 {

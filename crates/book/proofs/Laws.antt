@@ -1,5 +1,5 @@
 -- What each way out of the functions shows of the definitions of `specs/`. The numbers that the code computed are variables here, with
--- what is known of them, so that `search` finds them in a need's record. Assumes nothing.
+-- what is known of them, so that `search` finds them in a need's record.
 use mathlib.Core.Path.{_≡_, refl, sym, ap, _∙_}
 use mathlib.Core.Bool.{Bool, true, false, not, So, cond, _||_}
 use mathlib.Core.List.{List, []}
@@ -14,10 +14,11 @@ use lib.ListN.{length, take, drop}
 use Rattle.fields.specs.Fields.{field}
 use Rattle.outcome.specs.Outcome.{accepted, refused, code, ofLeftBook, ofCall}
 use Rattle.theory.specs.Graph.{link}
-use Rattle.outcome.specs.Refusals.{firstOf, first-none, first-some}
+use Rattle.outcome.specs.Refusals.{firstOf}
+use Rattle.outcome.specs.RefusalLaws.{first-none, first-some}
 use Rattle.book.specs.Book.{lengthOf, versionOf, cellsOf, linksOf, recordingPlace, labelWidth, linkWidth, linkStart, linkPlace, linkIn, linkAt, countsRefusal, headRefusal, below, precedes, rises, linkRefusal, linksRefusal, bookRefusal, bookAnswer, bookOutcome, asLink}
-use Rattle.book.specs.Accepted.{headed, link-room, book-sizes, answer-accepted, answer-refused}
-use Rattle.book.specs.Outgoing.{before-is, first-before, first-rises, part-room}
+use Rattle.book.specs.AcceptedLaws.{headed, link-room, book-sizes, answer-accepted, answer-refused}
+use Rattle.book.specs.OutgoingLaws.{before-is, first-before, first-rises, part-room}
 use Rattle.book.specs.BookLinks.{linksBefore, linksAfter, firstLink, RangeOut, partFrom, linksAnswer, partOf, linksPart, linksOutcome}
 use Rattle.book.specs.declared.BookAnswer.{BookAnswer}
 use Rattle.book.specs.declared.BookAnswer.the-variants.{Accepted, Refused}

@@ -1,6 +1,7 @@
 pub mod Book
 pub mod BookGraph
 pub mod BookLinks
-pub mod Accepted
-pub mod Outgoing
+pub mod AcceptedLaws
+pub mod OutgoingLaws
 pub mod Examples
+pub mod OutcomeLaws

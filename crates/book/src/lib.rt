@@ -63,7 +63,7 @@ pub fn links_of(bytes: &[u8]) -> usize
 }
 
 // Whether an accepted book has the cell.
-pub fn has_cell(bytes: &[u8], cell: usize) -> bool
+fn has_cell(bytes: &[u8], cell: usize) -> bool
     requires { ⌜ bookRefusal (now bytes) ≡ 0 ⌝ }
     ensures { λ r. ⌜ r ≡ ltb cell (cellsOf (now (bytes .entry))) ⌝ }
 {
@@ -102,6 +102,11 @@ fn link_place(bytes: &[u8], k: usize) -> usize
     link_start(bytes, cells_of(bytes), k)
 }
 
+// The most cells and links of a book.
+pub const MOST_CELLS: usize = 64;
+
+pub const MOST_LINKS: usize = 512;
+
 // The refusal of the header's counts, 0 where there is none.
 fn counts_refusal(bytes: &[u8]) -> u8
     requires { ⌜ 8 ≤ length (now bytes) ⌝ }
@@ -111,11 +116,11 @@ fn counts_refusal(bytes: &[u8]) -> u8
     if n < 1 {
         return 4;
     }
-    if 64 < n {
+    if MOST_CELLS < n {
         return 4;
     }
     let e = links_of(bytes);
-    if 512 < e {
+    if MOST_LINKS < e {
         return 4;
     }
     let l = fields::get4(bytes, 0) as usize;
@@ -304,7 +309,7 @@ pub fn first_by_counts(bytes: &[u8], cells: usize, links: usize, cell: usize) ->
 }
 
 // The number of the first link out of a cell, or of a later one.
-pub fn first_link(bytes: &[u8], cell: usize) -> usize
+fn first_link(bytes: &[u8], cell: usize) -> usize
     requires { ⌜ bookRefusal (now bytes) ≡ 0 ⌝ }
     ensures { λ r. ⌜ (r ≡ firstLink (now (bytes .entry)) cell) × (r ≤ linksOf (now (bytes .entry))) ⌝ }
 {
@@ -312,7 +317,7 @@ pub fn first_link(bytes: &[u8], cell: usize) -> usize
 }
 
 // The links out of a cell, by number.
-pub fn links_range(bytes: &[u8], cell: usize) -> LinkRange
+fn links_range(bytes: &[u8], cell: usize) -> LinkRange
     requires { ⌜ (bookRefusal (now bytes) ≡ 0) × (cell < cellsOf (now bytes)) ⌝ }
     ensures { λ r. ⌜ RangeOut (now (bytes .entry)) cell (r .first) (r .end) ⌝ }
 {
@@ -387,8 +392,7 @@ pub fn links_code(bytes: &[u8], cell: usize) -> u64
     }
 }
 
-// Where both books are at hand, their cells are `LeftCell` and `RightCell`, and the functions below take them: each side's cells go with its
-// own book. They say what the functions above say.
+// Where both books are at hand, their cells are `LeftCell` and `RightCell`, and a cell is looked for in the book of its own side.
 
 // Whether the left book has the cell.
 pub fn has_left(left: &[u8], cell: LeftCell) -> bool
@@ -404,34 +408,4 @@ pub fn has_right(right: &[u8], cell: RightCell) -> bool
     ensures { λ r. ⌜ r ≡ ltb (cell .0) (cellsOf (now (right .entry))) ⌝ }
 {
     has_cell(right, cell.0 as usize)
-}
-
-// The recording of a cell of the left book.
-pub fn left_recording(left: &[u8], cell: LeftCell) -> Recording
-    requires { ⌜ (bookRefusal (now left) ≡ 0) × (cell .0 < cellsOf (now left)) ⌝ }
-    ensures { λ r. ⌜ r .0 ≡ recordingAt (now (left .entry)) (cell .0) ⌝ }
-{
-    recording_of(left, cell.0 as usize)
-}
-
-// The recording of a cell of the right book.
-pub fn right_recording(right: &[u8], cell: RightCell) -> Recording
-    requires { ⌜ (bookRefusal (now right) ≡ 0) × (cell .0 < cellsOf (now right)) ⌝ }
-    ensures { λ r. ⌜ r .0 ≡ recordingAt (now (right .entry)) (cell .0) ⌝ }
-{
-    recording_of(right, cell.0 as usize)
-}
-
-// Links, of a cell of the left book.
-pub fn left_links(left: &[u8], cell: LeftCell) -> &[u8]
-    ensures { λ r. ⌜ now r ≡ linksPart (now (left .entry)) (cell .0) ⌝ }
-{
-    links(left, cell.0 as usize)
-}
-
-// Links, of a cell of the right book.
-pub fn right_links(right: &[u8], cell: RightCell) -> &[u8]
-    ensures { λ r. ⌜ now r ≡ linksPart (now (right .entry)) (cell .0) ⌝ }
-{
-    links(right, cell.0 as usize)
 }

@@ -1,31 +1,32 @@
--- What each way out of Compare shows of the definitions of `specs/`, in the form in which `search` finds it. Assumes nothing.
+-- What each way out of Compare shows of the definitions of `specs/`, in the form in which `search` finds it.
 use mathlib.Core.List.{List, _++_}
 use mathlib.Core.Path.{_≡_, refl, sym, ap, ap₂, _∙_}
-use Prim.Native.Nat.{ℕ, _+_, _*_, _^_, _≤_, _<_}
+use Prim.Native.Nat.{ℕ, _*_, _^_, _≤_, _<_}
 use native.Mathlib.Omega.{arith}
 use mir.Syntax.{w8}
 use mir.Val.{Fits}
 use borrow.Author.Tests.{lt-ltb, le-ltb, eq-eqb, ne-eqb}
 use lib.ListN.{length, getD, drop, replicate, take-append-drop}
 use lib.Seq.{sets}
-use Rattle.theory.specs.Bisimulation.{twoSided}
 use Rattle.outcome.specs.Outcome.{code}
 use Rattle.book.specs.Book.{cellsOf, bookRefusal}
-use Rattle.book.specs.BookGraph.{graphOf}
-use Rattle.book.specs.Accepted.{book-sizes}
-use Rattle.sheet.specs.Entry.{Entry}
-use Rattle.sheet.specs.Sheet.{headSize}
+use Rattle.sheet.specs.Entry.{onlyVersion, Entry}
+use Rattle.sheet.specs.Sheet.{headSize, mostBound}
 use Rattle.sheet.specs.Encoding.{header, sheetBytes}
-use Rattle.sheet.specs.Written.{Writable, written-length}
-use Rattle.sheet_writer.specs.Writing.{Holding, holding-sheet, sheet-kept-after}
-use Rattle.refinement.specs.Places.{zeros, zeros-nonzeros}
-use Rattle.refinement.specs.Refining.{Compared}
-use Rattle.refinement.specs.Theorems.{compared-writable, compared-room}
-use Rattle.describing.specs.declared.Pen.{Pen}
-use Rattle.comparing.specs.Comparing.{Lent, Fills}
+use Rattle.sheet.specs.WrittenLaws.{Writable, written-length}
+use Rattle.sheet_writer.specs.Writing.{Holding}
+use Rattle.sheet_writer.specs.WritingLaws.{holding-sheet, sheet-kept-after}
+use Rattle.compare_laws.specs.Places.{zeros}
+use Rattle.compare_laws.specs.PlaceLaws.{zeros-nonzeros}
+use Rattle.compare_laws.specs.Room.{roomNeeded}
+use Rattle.compare_laws.specs.Refining.{Compared}
+use Rattle.compare_laws.specs.Theorems.{compared-writable, compared-room}
+use Rattle.compare_entries.specs.declared.Pen.{Pen}
+use Rattle.compare_lists.specs.BookSetting.{settingOf}
+use Rattle.compare_lists.specs.Comparing.{Lent, Fills}
 use Rattle.compare.specs.declared.CompareAnswer.{CompareAnswer}
 use Rattle.compare.specs.declared.CompareAnswer.the-variants as says
-use Rattle.compare.specs.Compare.{pairsOf, lentAnswer, compareAnswer, compareOutcome, comparedMap, comparedSheet, Lists, leftBy, rightAnswer, lent, IsCompare, IsCompareCode}
+use Rattle.compare.specs.Compare.{pairsOf, scratchNeeded, lentAnswer, compareAnswer, compareOutcome, comparedMap, comparedSheet, Lists, leftBy, rightAnswer, lent, IsCompare, IsCompareCode}
 use Rattle.compare.specs.Promises.{Given, map-places, sheet-fits}
 use Rattle.compare.specs.Laws.{books-accepted, accepts-compared, compared-accepts, pairs-most}
 
@@ -44,12 +45,12 @@ module _ {l r : List ℕ} {c : ℕ} {map : List ℕ} {room : List ℕ} (given : 
   unfolding entries
   held = t .finished .penned .held
 
-  compared : Compared twoSided (graphOf l) (graphOf r) c entries map′
+  compared : Compared (settingOf l r c) entries map′
   unfolding entries
   compared = t .finished .compared
 
   writable : Writable c entries
-  writable = compared-writable compared (given .bound) (book-sizes l (given .leftAccepted) .few) (book-sizes r (given .rightAccepted) .few)
+  writable = compared-writable (t .comparable) compared
 
   sheet-length : length (sheetBytes c entries) ≡ pen .at
   sheet-length = written-length writable ∙ sym (held .place)
@@ -57,7 +58,7 @@ module _ {l r : List ℕ} {c : ℕ} {map : List ℕ} {room : List ℕ} (given : 
   -- the sheet's length and the count of zeros fit their numbers
   pub sheet-narrow : pen .at < 2 ^ 32
   sheet-narrow =
-      let h = compared-room compared (given .bound) (book-sizes l (given .leftAccepted) .few) (book-sizes r (given .rightAccepted) .few) in
+      let h = compared-room (t .comparable) compared in
       omega (arith, sheet-length, pairs-most l r (given .leftAccepted) (given .rightAccepted))
 
   pub count-narrow : (count : ℕ) → count ≡ zeros map′ → count < 2 ^ 32
@@ -83,7 +84,7 @@ module _ {l r : List ℕ} {c : ℕ} {map : List ℕ} {room : List ℕ} (given : 
         ∙ ap (λ n. sheetBytes c entries ++ drop n room) (sym sheet-length) ∙ ap (λ s. s ++ drop (length s) room) sheet-is
 
     -- Compare has served the caller
-    pub all-served : {scratch scratch′ : List ℕ} {count : ℕ} → 16 * pairsOf l r ≤ length scratch → scratch′ ≡ replicate (length scratch) 0 → count ≡ zeros map′
+    pub all-served : {scratch scratch′ : List ℕ} {count : ℕ} → scratchNeeded (pairsOf l r) ≤ length scratch → scratch′ ≡ replicate (length scratch) 0 → count ≡ zeros map′
         → IsCompare l r c (lent map room scratch) (says.Compared (pen .at) count) (lent map′ room′ scratch′)
     unfolding leftBy
     all-served h z n =
@@ -103,24 +104,20 @@ module _ {l r : List ℕ} {c : ℕ} {map : List ℕ} {room : List ℕ} (given : 
 -- ---- what is lent
 
 module _ (l r : List ℕ) (n m : ℕ) (d : n ≡ cellsOf l) (e : m ≡ cellsOf r) where
-  pub scratch-lent : (size : ℕ) → 16 * (n * m) ≤ size → 16 * pairsOf l r ≤ size
+  pub scratch-lent : (size : ℕ) → scratchNeeded (n * m) ≤ size → scratchNeeded (pairsOf l r) ≤ size
   scratch-lent size h = rw (d, e) at h
 
   module _ (left : bookRefusal l ≡ 0) (right : bookRefusal r ≡ 0) where
-    pairs-few : n * m ≤ 4096
+    pub pairs-few : n * m ≤ 4096
     pairs-few = rw (d, e) (pairs-most l r left right)
 
     pub pairs-fit : n * m < 2 ^ 64
     pairs-fit = omega (arith, pairs-few)
 
-    pub bytes-fit : 44 * (n * m) < 2 ^ 64
-    bytes-fit = omega (arith, pairs-few)
-
-    pub room-fits : 10 + 44 * (n * m) < 2 ^ 64
-    room-fits = omega (arith, pairs-few)
-
-    pub all-lent : (c : ℕ) (map room : List ℕ) → c ≤ 4 → length map ≡ n * m → 10 + 44 * (n * m) ≤ length room → Lent l r c map room
-    all-lent c map room low places roomy = record { leftAccepted = left; rightAccepted = right; bound = low; places = rw (d, e) at places; roomy = rw (d, e) at roomy }
+    pub all-lent : (c : ℕ) (map room : List ℕ) (needed : ℕ) → needed ≡ roomNeeded onlyVersion (n * m) → c ≤ mostBound → length map ≡ n * m → needed ≤ length room
+        → Lent l r c map room
+    all-lent c map room needed k low places roomy =
+        record { leftAccepted = left; rightAccepted = right; bound = low; places = rw (d, e) at places; roomy = rw (k, d, e) at roomy }
 
 -- ---- what is declined
 
@@ -128,21 +125,21 @@ module _ (l r : List ℕ) (c : ℕ) (b : Lists) where
   declined : (a : CompareAnswer) → rightAnswer l r c b ≡ a → b ≡ leftBy l r c b a → IsCompare l r c b a b
   declined a e k = record { answer = sym e; lists = rw e k }
 
-  pub bound-above : 4 < c → IsCompare l r c b says.BoundAbove b
+  pub bound-above : mostBound < c → IsCompare l r c b says.BoundAbove b
   unfolding compareAnswer leftBy
-  bound-above h = declined says.BoundAbove (simp (lt-ltb 4 c h)) refl
+  bound-above h = declined says.BoundAbove (simp (lt-ltb mostBound c h)) refl
 
-  module _ (low : c ≤ 4) where
+  module _ (low : c ≤ mostBound) where
     pub left-refused : (refusal : ℕ) → refusal ≡ bookRefusal l → (refusal ≡ 0 → ⊥) → IsCompare l r c b (says.LeftRefused refusal) b
     unfolding compareAnswer leftBy
-    left-refused refusal e f = rw e (declined (says.LeftRefused (bookRefusal l)) (simp (le-ltb 4 c low, ne-eqb (bookRefusal l) 0 (rw e at f))) refl)
+    left-refused refusal e f = rw e (declined (says.LeftRefused (bookRefusal l)) (simp (le-ltb mostBound c low, ne-eqb (bookRefusal l) 0 (rw e at f))) refl)
 
     -- none of the left book
     pub right-refused : (none refusal : ℕ) → none ≡ bookRefusal l → none ≡ 0 → refusal ≡ bookRefusal r → (refusal ≡ 0 → ⊥)
         → IsCompare l r c b (says.RightRefused refusal) b
     unfolding compareAnswer leftBy
     right-refused none refusal d z e f =
-        rw e (declined (says.RightRefused (bookRefusal r)) (simp (le-ltb 4 c low, eq-eqb (bookRefusal l) 0 (sym d ∙ z), ne-eqb (bookRefusal r) 0 (rw e at f))) refl)
+        rw e (declined (says.RightRefused (bookRefusal r)) (simp (le-ltb mostBound c low, eq-eqb (bookRefusal l) 0 (sym d ∙ z), ne-eqb (bookRefusal r) 0 (rw e at f))) refl)
 
     module _ (left : bookRefusal l ≡ 0) (right : bookRefusal r ≡ 0) (n m : ℕ) (d : n ≡ cellsOf l) (e : m ≡ cellsOf r) where
       -- what is lent is judged by the number of pairs
@@ -154,17 +151,17 @@ module _ (l r : List ℕ) (c : ℕ) (b : Lists) where
       unfolding lentAnswer leftBy
       map-length f = lent-declined says.MapLength (simp (ne-eqb (length (b .map)) (n * m) f)) refl
 
-      module _ (places : length (b .map) ≡ n * m) where
-        pub few-room : length (b .room) < 10 + 44 * (n * m) → IsCompare l r c b says.FewRoom b
+      module _ (places : length (b .map) ≡ n * m) (needed : ℕ) (k : needed ≡ roomNeeded onlyVersion (n * m)) where
+        pub few-room : length (b .room) < needed → IsCompare l r c b says.FewRoom b
         unfolding lentAnswer leftBy
-        few-room h = lent-declined says.FewRoom (simp (eq-eqb (length (b .map)) (n * m) places, lt-ltb (length (b .room)) (10 + 44 * (n * m)) h)) refl
+        few-room h = lent-declined says.FewRoom (simp (eq-eqb (length (b .map)) (n * m) places, lt-ltb (length (b .room)) (roomNeeded onlyVersion (n * m)) (rw k at h))) refl
 
-        module _ (roomy : 10 + 44 * (n * m) ≤ length (b .room)) where
-          pub few-scratch : length (b .scratch) < 16 * (n * m) → IsCompare l r c b says.FewScratch b
+        module _ (roomy : needed ≤ length (b .room)) where
+          pub few-scratch : length (b .scratch) < scratchNeeded (n * m) → IsCompare l r c b says.FewScratch b
           unfolding lentAnswer leftBy
           few-scratch h =
               lent-declined says.FewScratch
-              (simp (eq-eqb (length (b .map)) (n * m) places, le-ltb (length (b .room)) (10 + 44 * (n * m)) roomy, lt-ltb (length (b .scratch)) (16 * (n * m)) h)) refl
+              (simp (eq-eqb (length (b .map)) (n * m) places, le-ltb (length (b .room)) (roomNeeded onlyVersion (n * m)) (rw k at roomy), lt-ltb (length (b .scratch)) (scratchNeeded (n * m)) h)) refl
 
 -- ---- as one number
 

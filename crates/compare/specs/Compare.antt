@@ -2,16 +2,18 @@
 use mathlib.Core.Bool.{not, cond}
 use mathlib.Core.List.{List, _++_}
 use mathlib.Core.Path.{_≡_}
-use Prim.Native.Nat.{ℕ, _+_, _*_}
+use Prim.Native.Nat.{ℕ, _*_, _≤_}
 use lib.Dec.{eqb, ltb}
 use lib.ListN.{length, drop, replicate}
-use Rattle.theory.specs.Bisimulation.{twoSided}
 use Rattle.outcome.specs.Outcome.{Outcome, accepted, refused, ofCall, ofLeftBook, ofRightBook, code}
 use Rattle.book.specs.Book.{cellsOf, bookRefusal}
-use Rattle.book.specs.BookGraph.{graphOf}
+use Rattle.sheet.specs.Entry.{onlyVersion}
+use Rattle.sheet.specs.Sheet.{mostBound}
 use Rattle.sheet.specs.Encoding.{sheetBytes}
-use Rattle.refinement.specs.Comparison.{State, comparison}
-use Rattle.refinement.specs.Places.{zeros}
+use Rattle.compare_laws.specs.Room.{roomNeeded}
+use Rattle.compare_laws.specs.Comparison.{State, comparison}
+use Rattle.compare_laws.specs.Places.{zeros}
+use Rattle.compare_lists.specs.BookSetting.{settingOf}
 use Rattle.compare.specs.declared.CompareAnswer.{CompareAnswer}
 use Rattle.compare.specs.declared.CompareAnswer.the-variants as says
 
@@ -19,21 +21,34 @@ use Rattle.compare.specs.declared.CompareAnswer.the-variants as says
 abbrev pub pairsOf : List ℕ → List ℕ → ℕ
 pairsOf l r = cellsOf l * cellsOf r
 
+-- The bytes of scratch that so many pairs need.
+abbrev pub scratchNeeded : ℕ → ℕ
+scratchNeeded pairs = 16 * pairs
+
 -- "21: map length not n × m. 22: sheet room below 10 + 44 × n × m bytes. 23: scratch below 16 × n × m." Otherwise "the answer holds the sheet's length
 -- and the number of zeros in the map". `places`, `room` and `scratch` are how much is lent of each for so many pairs.
 unfoldable pub lentAnswer : (pairs places room scratch sheet count : ℕ) → CompareAnswer
 lentAnswer pairs places room scratch sheet count =
     cond (not (eqb places pairs)) says.MapLength
-    (cond (ltb room (10 + 44 * pairs)) says.FewRoom
-    (cond (ltb scratch (16 * pairs)) says.FewScratch (says.Compared sheet count)))
+    (cond (ltb room (roomNeeded onlyVersion pairs)) says.FewRoom
+    (cond (ltb scratch (scratchNeeded pairs)) says.FewScratch (says.Compared sheet count)))
 
 -- "20: c above 4. The left book's refusal, then the right's, each with its side", and then as above.
 unfoldable pub compareAnswer : List ℕ → List ℕ → (c places room scratch sheet count : ℕ) → CompareAnswer
 compareAnswer l r c places room scratch sheet count =
-    cond (ltb 4 c) says.BoundAbove
+    cond (ltb mostBound c) says.BoundAbove
     (cond (not (eqb (bookRefusal l) 0)) (says.LeftRefused (bookRefusal l))
     (cond (not (eqb (bookRefusal r) 0)) (says.RightRefused (bookRefusal r))
     (lentAnswer (pairsOf l r) places room scratch sheet count)))
+
+-- Nothing is to be declined: a bound, two accepted books, and as much lent as 01 asks for.
+pub record Accepts (l r : List ℕ) (c places room scratch : ℕ) : Type 0 where
+  pub bound : c ≤ mostBound
+  pub left : bookRefusal l ≡ 0
+  pub right : bookRefusal r ≡ 0
+  pub map : places ≡ pairsOf l r
+  pub roomy : roomNeeded onlyVersion (pairsOf l r) ≤ room
+  pub spare : scratchNeeded (pairsOf l r) ≤ scratch
 
 -- 01's number of each answer, and the part that a refusal speaks of.
 abbrev pub compareOutcome : CompareAnswer → Outcome
@@ -45,9 +60,9 @@ compareOutcome says.MapLength = refused ofCall 21
 compareOutcome says.FewRoom = refused ofCall 22
 compareOutcome says.FewScratch = refused ofCall 23
 
--- What Compare computes: the state that the definition of the comparison ends in (refinement, `comparison`), of the graphs of the two books.
+-- What Compare computes: the state that the definition of the comparison ends in, of the two books' setting.
 abbrev pub compared : List ℕ → List ℕ → ℕ → State
-compared l r c = comparison twoSided (graphOf l) (graphOf r) c
+compared l r c = comparison (settingOf l r c)
 
 -- The map: "place i × m + j is 0 if left i and right j are matched, else the entry of a question that parts them".
 abbrev pub comparedMap : List ℕ → List ℕ → ℕ → List ℕ

@@ -1,52 +1,46 @@
--- When Compare declines and when it does not, and what its values are at most. Assumes nothing.
+-- When Compare declines and when it does not, and what its values are at most.
 use mathlib.Core.Bool.{not}
 use mathlib.Core.List.{List}
 use mathlib.Core.Path.{_≡_, sym, _∙_}
-use Prim.Native.Nat.{ℕ, _+_, _*_, _≤_}
+use Prim.Native.Nat.{ℕ, _≤_}
 use native.Mathlib.Nat.{mul-le-mul}
 use native.Mathlib.Omega.{arith}
 use borrow.Author.Tests.{le-ltb, ltb-false, eq-eqb, eqb-true, not-false}
 use lib.Dec.{eqb, ltb}
-use Rattle.outcome.specs.Refusals.{passed-by}
+use Rattle.outcome.specs.RefusalLaws.{passed-by}
 use Rattle.book.specs.Book.{bookRefusal}
-use Rattle.book.specs.Accepted.{book-sizes}
+use Rattle.book.specs.AcceptedLaws.{book-sizes}
+use Rattle.sheet.specs.Entry.{onlyVersion}
+use Rattle.sheet.specs.Sheet.{mostBound}
+use Rattle.compare_laws.specs.Room.{roomNeeded}
 use Rattle.compare.specs.declared.CompareAnswer.the-variants as says
-use Rattle.compare.specs.Compare.{pairsOf, lentAnswer, compareAnswer}
-
--- Nothing is to be declined: a bound, two accepted books, and as much lent as 01 asks for.
-pub record Accepts (l r : List ℕ) (c places room scratch : ℕ) : Type 0 where
-  pub bound : c ≤ 4
-  pub left : bookRefusal l ≡ 0
-  pub right : bookRefusal r ≡ 0
-  pub map : places ≡ pairsOf l r
-  pub roomy : 10 + 44 * pairsOf l r ≤ room
-  pub spare : 16 * pairsOf l r ≤ scratch
+use Rattle.compare.specs.Compare.{pairsOf, scratchNeeded, lentAnswer, compareAnswer, Accepts}
 
 module _ (l r : List ℕ) (c places room scratch sheet count : ℕ) where
   -- where only what is lent is still to be judged
-  pub books-accepted : c ≤ 4 → bookRefusal l ≡ 0 → bookRefusal r ≡ 0
+  pub books-accepted : c ≤ mostBound → bookRefusal l ≡ 0 → bookRefusal r ≡ 0
       → compareAnswer l r c places room scratch sheet count ≡ lentAnswer (pairsOf l r) places room scratch sheet count
   unfolding compareAnswer
-  books-accepted bound left right = simp (le-ltb 4 c bound, eq-eqb (bookRefusal l) 0 left, eq-eqb (bookRefusal r) 0 right)
+  books-accepted bound left right = simp (le-ltb mostBound c bound, eq-eqb (bookRefusal l) 0 left, eq-eqb (bookRefusal r) 0 right)
 
   -- where nothing is to be declined Compare answers,
   pub accepts-compared : Accepts l r c places room scratch → compareAnswer l r c places room scratch sheet count ≡ says.Compared sheet count
   unfolding lentAnswer
   accepts-compared g =
       books-accepted (g .bound) (g .left) (g .right)
-      ∙ simp (eq-eqb places (pairsOf l r) (g .map), le-ltb room (10 + 44 * pairsOf l r) (g .roomy), le-ltb scratch (16 * pairsOf l r) (g .spare))
+      ∙ simp (eq-eqb places (pairsOf l r) (g .map), le-ltb room (roomNeeded onlyVersion (pairsOf l r)) (g .roomy), le-ltb scratch (scratchNeeded (pairsOf l r)) (g .spare))
 
   -- and only then, with these values
   pub compared-accepts : (sheet′ count′ : ℕ) → says.Compared sheet′ count′ ≡ compareAnswer l r c places room scratch sheet count
       → Accepts l r c places room scratch × (sheet′ ≡ sheet) × (count′ ≡ count)
   unfolding compareAnswer lentAnswer
   compared-accepts sheet′ count′ h =
-      let (bound, h1) = passed-by (ltb 4 c) (λ e. let z : _≡_ {A = ℕ} 0 1 = cc in omega arith) (sym h) in
+      let (bound, h1) = passed-by (ltb mostBound c) (λ e. let z : _≡_ {A = ℕ} 0 1 = cc in omega arith) (sym h) in
       let (left, h2) = passed-by (not (eqb (bookRefusal l) 0)) (λ e. let z : _≡_ {A = ℕ} 0 1 = cc in omega arith) h1 in
       let (right, h3) = passed-by (not (eqb (bookRefusal r) 0)) (λ e. let z : _≡_ {A = ℕ} 0 1 = cc in omega arith) h2 in
       let (map, h4) = passed-by (not (eqb places (pairsOf l r))) (λ e. let z : _≡_ {A = ℕ} 0 1 = cc in omega arith) h3 in
-      let (roomy, h5) = passed-by (ltb room (10 + 44 * pairsOf l r)) (λ e. let z : _≡_ {A = ℕ} 0 1 = cc in omega arith) h4 in
-      let (spare, h6) = passed-by (ltb scratch (16 * pairsOf l r)) (λ e. let z : _≡_ {A = ℕ} 0 1 = cc in omega arith) h5 in (
+      let (roomy, h5) = passed-by (ltb room (roomNeeded onlyVersion (pairsOf l r))) (λ e. let z : _≡_ {A = ℕ} 0 1 = cc in omega arith) h4 in
+      let (spare, h6) = passed-by (ltb scratch (scratchNeeded (pairsOf l r))) (λ e. let z : _≡_ {A = ℕ} 0 1 = cc in omega arith) h5 in (
         record {
           bound = ltb-false _ _ bound;
           left = eqb-true _ _ (not-false _ left);

@@ -1,4 +1,5 @@
 pub mod Compare
+pub mod Parted
 pub mod Laws
 pub mod Promises
-pub mod Demands
+pub mod OutcomeLaws

@@ -1,14 +1,28 @@
 // Compare (01): two books, pair by pair of their cells.
 ghost use mathlib.Core.Path.{_≡_};
-ghost use Prim.Native.Nat.{_*_, _^_, _≤_, _<_};
+ghost use Prim.Native.Nat.{_^_, _≤_, _<_};
 ghost use lib.ListN.{length};
 ghost use Rattle.outcome.specs.Outcome.{code};
 ghost use Rattle.book.specs.Book.{bookRefusal};
-ghost use Rattle.comparing.specs.Comparing.{Lent};
-ghost use Rattle.compare.specs.Compare.{pairsOf, lent, compareOutcome, IsCompare, IsCompareCode};
+ghost use Rattle.sheet.specs.Entry.{onlyVersion};
+ghost use Rattle.sheet.specs.Sheet.{mostBound};
+ghost use Rattle.compare_laws.specs.Room.{roomNeeded};
+ghost use Rattle.compare_lists.specs.Comparing.{Lent};
+ghost use Rattle.compare.specs.Compare.{pairsOf, scratchNeeded, lent, compareOutcome, IsCompare, IsCompareCode};
 use outcome::OF_CALL;
 use outcome::OF_LEFT_BOOK;
 use outcome::OF_RIGHT_BOOK;
+
+// The largest bound.
+const MOST_BOUND: usize = sheet::MOST_BOUND as usize;
+
+// The bytes of a sheet's header and of its first entry, always true.
+const HEAD_AND_TRUE: usize = 10;
+
+// The most bytes that a parted pair takes in the room, and what it takes of the scratch.
+const BYTES_A_PAIR: usize = 44;
+
+const SCRATCH_A_PAIR: usize = 16;
 
 // What Compare answers: the length of the sheet and how many pairs are matched; a bound above 4 (20); the refusal of a book; a map whose length is
 // not the number of pairs (21); too little room (22) or scratch (23).
@@ -31,18 +45,26 @@ fn served(
     room: &mut [u8],
     scratch: &mut [u8],
 ) -> CompareAnswer
-    requires { ⌜ Lent (now left) (now right) bound (now map) (now room) × (16 * pairsOf (now left) (now right) ≤ length (now scratch)) ⌝ }
+    requires { ⌜ Lent (now left) (now right) bound (now map) (now room) × (scratchNeeded (pairsOf (now left) (now right)) ≤ length (now scratch)) ⌝ }
     ensures { λ r. ⌜ IsCompare (now (left .entry)) (now (right .entry)) bound (lent (now (map .entry)) (now (room .entry)) (now (scratch .entry))) r (lent (now (map .exit)) (now (room .exit)) (now (scratch .exit))) ⌝ }
 {
-    let pen = comparing::fill(left, right, bound, map, room);
+    let pen = compare_lists::fill(left, right, bound, map, room);
     let at = pen.at;
     sheet_writer::put_header(room, at as u32, bound, pen.next);
-    relation::clear_bytes(scratch);
-    let count = relation::zeros(map);
+    compare_map::clear_bytes(scratch);
+    let count = compare_map::zeros(map);
     CompareAnswer::Compared {
         sheet: at as u32,
         matched: count as u32,
     }
+}
+
+// The bytes of room that so many pairs need: the header and the first entry, and what parts them all.
+fn room_needed(pairs: usize) -> usize
+    requires { ⌜ pairs ≤ 4096 ⌝ }
+    ensures { λ r. ⌜ r ≡ roomNeeded onlyVersion pairs ⌝ }
+{
+    HEAD_AND_TRUE + BYTES_A_PAIR * pairs
 }
 
 // Compare of two accepted books: whether enough is lent.
@@ -54,17 +76,17 @@ fn measured(
     room: &mut [u8],
     scratch: &mut [u8],
 ) -> CompareAnswer
-    requires { ⌜ (bookRefusal (now left) ≡ 0) × (bookRefusal (now right) ≡ 0) × (bound ≤ 4) ⌝ }
+    requires { ⌜ (bookRefusal (now left) ≡ 0) × (bookRefusal (now right) ≡ 0) × (bound ≤ mostBound) ⌝ }
     ensures { λ r. ⌜ IsCompare (now (left .entry)) (now (right .entry)) bound (lent (now (map .entry)) (now (room .entry)) (now (scratch .entry))) r (lent (now (map .exit)) (now (room .exit)) (now (scratch .exit))) ⌝ }
 {
     let pairs = book::cells_of(left) * book::cells_of(right);
     if map.len() != pairs {
         return CompareAnswer::MapLength;
     }
-    if room.len() < 10 + 44 * pairs {
+    if room.len() < room_needed(pairs) {
         return CompareAnswer::FewRoom;
     }
-    if scratch.len() < 16 * pairs {
+    if scratch.len() < SCRATCH_A_PAIR * pairs {
         return CompareAnswer::FewScratch;
     }
     served(left, right, bound, map, room, scratch)
@@ -84,7 +106,7 @@ pub fn compare(
 ) -> CompareAnswer
     ensures { λ r. ⌜ IsCompare (now (left .entry)) (now (right .entry)) bound (lent (now (map .entry)) (now (room .entry)) (now (scratch .entry))) r (lent (now (map .exit)) (now (room .exit)) (now (scratch .exit))) ⌝ }
 {
-    if 4 < bound {
+    if MOST_BOUND < bound {
         return CompareAnswer::BoundAbove;
     }
     let refusal = book::refusal_of(left);

@@ -1,4 +1,4 @@
--- What each turn and each way out of the functions that read a book shows of the definitions of `specs/`, as in `Laws`. Assumes nothing.
+-- What each turn and each way out of the functions that read a book shows of the definitions of `specs/`, as in `Laws`.
 use mathlib.Core.Bool.{Bool, false, So, cond}
 use mathlib.Core.Path.{_≡_, refl, sym, ap, _∙_}
 use mathlib.Core.List.{List}
@@ -10,13 +10,13 @@ use native.Mathlib.Omega.{arith}
 use lib.Bits.{bitOr}
 use lib.ListN.{length, set, length-set}
 use lib.Seq.{getD-set-same, getD-set-other}
-use Rattle.theory.specs.Tests.{list-ext}
+use Rattle.theory.specs.TestLaws.{list-ext}
 use Rattle.theory.specs.Graph.{Comparison, same, differ, compared}
 use Rattle.words.specs.Words.{wordOf}
 use Rattle.words.specs.Laws.{wordOf-suc}
 use Rattle.book.specs.Book.{cellsOf, linksOf, recordingAt, linkAt, bookRefusal, asLink}
 use Rattle.book.specs.BookGraph.{dataValue}
-use Rattle.book.specs.Accepted.{book-sizes, book-link, book-ends}
+use Rattle.book.specs.AcceptedLaws.{book-sizes, book-link, book-ends}
 use Rattle.book.specs.declared.BookLink.{BookLink}
 use Rattle.edges.specs.Edges.{edgeAt, emptyRows}
 use Rattle.edges.specs.BookEdges.{Loaded, comparisonOf, passingTo, passingRows, passing}

@@ -1,5 +1,5 @@
 -- What each turn and each way out of the functions shows of the definitions of `specs/`. The numbers that the code computed are variables
--- here, with what is known of them, so that `search` finds them in a need's record. Assumes nothing.
+-- here, with what is known of them, so that `search` finds them in a need's record.
 use mathlib.Core.Bool.{Bool, true, false, So, cond, _&&_, _||_}
 use mathlib.Core.Path.{_≡_, refl, sym, ap₂, _∙_}
 use mathlib.Core.List.{List, [], _∷_}
@@ -14,7 +14,7 @@ use lib.Pow.{pow-lt}
 use mir.Syntax.{w64}
 use mir.Val.{Fits}
 use Rattle.theory.specs.Search.{list}
-use Rattle.theory.specs.Tests.{list-ext}
+use Rattle.theory.specs.TestLaws.{list-ext}
 use Rattle.theory.specs.Graph.{Link}
 use Rattle.words.specs.Words.{bit}
 use Rattle.edges.specs.Edges.{edgeAt, edges, Held, image, gather, meets, anyPasses}

@@ -1,4 +1,4 @@
--- What sets of nodes become along the links of a graph: the laws of `Edges` for callers, in the theory's terms. Assumes nothing.
+-- What sets of nodes become along the links of a graph: the laws of `Edges` for callers, in the theory's terms.
 use mathlib.Core.Bool.{Bool, true, false, So, cond, _&&_, _||_, and-false, or-false, and-assoc, and-comm, or-assoc}
 use mathlib.Core.Path.{_≡_, refl, sym, ap, ap₂, _∙_}
 use mathlib.Core.List.{List, [], _∷_}
@@ -12,8 +12,9 @@ use lib.ListN.{length, getD, set, length-set, getD-replicate, length-replicate}
 use lib.Pow.{pow-pos, pow-lt}
 use lib.Seq.{getD-set-same, getD-set-other}
 use Rattle.theory.specs.Search.{any, list}
-use Rattle.theory.specs.Tests.{any-iff, any-ext, and-iff, or-iff, test-eq, test-fails, list-at, list-ext, facts}
+use Rattle.theory.specs.TestLaws.{any-iff, any-ext, and-iff, or-iff, test-eq, test-fails, list-at, list-ext, facts}
 use Rattle.theory.specs.Graph.{Graph, Link, Inside, WellFormed, has, linked}
+use Rattle.outcome.specs.RefusalLaws.{either}
 use Rattle.words.specs.Words.{bit, wordOf}
 use Rattle.words.specs.Laws.{bit-zero, bit-or, bit-with, bit-without, meet-zero-iff, bit-wordOf, bit-wordOf-lt, wordOf-lt, wordOf-is}
 use Rattle.edges.specs.Edges.{edgeAt, edges, turn, turned, Held, image, gather, emptyRows, rowsTo, meets, anyPasses, Rows}
@@ -107,16 +108,12 @@ image-bit n (k ∷ ks) (l, m, i) a w out y =
     ordered : (l f t : Bool) → l && f && t ≡ l && (t && f)
     ordered l f t = and-assoc l f t ∙ ap (λ (b : Bool). l && b) (and-comm f t)
 
-either : (P : ℕ → Type 0) (b : Bool) {x y : ℕ} → P x → P y → P (cond b x y)
-either P true h k = h
-either P false h k = k
-
 image-lt : (n : ℕ) (ks : List Link) → Inside n ks → (a w out : ℕ) → out < 2 ^ n → image ks a w out < 2 ^ n
 unfolding image Inside
 image-lt n [] i a w out h = h
 image-lt n (k ∷ ks) (l, m, i) a w out h =
     image-lt n ks i a w _
-    (either (λ x. x < 2 ^ n) (eqb (k .label) a && bit w (k .from)) (or-lt n out (2 ^ k .to) h (pow-lt m)) h)
+    (either (λ x. x < 2 ^ n) (eqb (k .label) a && bit w (k .from)) (λ _. or-lt n out (2 ^ k .to) h (pow-lt m)) (λ _. h))
 
 -- the image of a set of nodes, as a set of nodes
 image-word : (n : ℕ) (ks : List Link) → Inside n ks → (a : ℕ) (p : ℕ → Bool)
@@ -181,7 +178,7 @@ gather-lt n (k ∷ ks) (l, m, i) a w later rows h f g =
     next : (b : Bool) (x : ℕ) → x < n → getD (cond b (set rows (k .from) (bitOr (getD rows (k .from) 0) (getD later (k .to) 0))) rows) x 0 < 2 ^ n
     next true x o =
         rw (row-set rows (k .from) (bitOr (getD rows (k .from) 0) (getD later (k .to) 0)) x (omega arith))
-        (either (λ v. v < 2 ^ n) (eqb (k .from) x) (or-lt n _ _ (g (k .from) l) (f (k .to) m)) (g x o))
+        (either (λ v. v < 2 ^ n) (eqb (k .from) x) (λ _. or-lt n _ _ (g (k .from) l) (f (k .to) m)) (λ _. g x o))
     next false x o = g x o
 
 -- the rows that are gathered from rows that hold q
@@ -290,10 +287,6 @@ any-passes-is n f h r rows l d =
 
 -- ---- the links of a graph, held in three lists
 module _ (g : Graph) (ok : WellFormed g) (count : ℕ) (fs ls ts : List ℕ) (is : edges count fs ls ts ≡ g .links) (a : ℕ) (p : ℕ → Bool) where
-  -- the nodes that a link with the label a leads to from a node with p
-  pub image-is : image (edges count fs ls ts) a (wordOf (g .size) p) 0 ≡ wordOf (g .size) (λ y. any (g .size) (λ x. linked g x a y && p x))
-  image-is = rw is (image-word (g .size) (g .links) (ok .inside) a p)
-
   -- the nodes that a link with the label a leads from to a node with p
   pub preimage-is : image (edges count ts ls fs) a (wordOf (g .size) p) 0 ≡ wordOf (g .size) (λ x. any (g .size) (λ y. linked g x a y && p y))
   preimage-is =

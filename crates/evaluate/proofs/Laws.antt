@@ -1,4 +1,4 @@
--- What each function of the evaluation returns, and what its loops keep: a law for each exit and each turn. Assumes nothing.
+-- What each function of the evaluation returns, and what its loops keep: a law for each exit and each turn.
 use mathlib.Core.Bool.{Bool, true, false, cond}
 use mathlib.Core.Path.{_≡_, refl, sym, ap, _∙_}
 use mathlib.Core.List.{List, append-nil}
@@ -16,13 +16,13 @@ use Rattle.words.specs.Words.{wordOf}
 use Rattle.words.specs.Laws.{wordOf-suc}
 use Rattle.sheet.specs.Entry.{Step, Entry, truth, negation, conjunction, disjunction, way, comparison, kindOf, firstWay, secondWay, stepIn, numbers}
 use Rattle.sheet.specs.Sheet.{entryAt, entryStart, nextAt}
-use Rattle.sheet.specs.Accepted.{entryStart-zero}
+use Rattle.sheet.specs.AcceptedLaws.{entryStart-zero}
 use Rattle.sheet.specs.Reading.{Reads, stepsOf}
 use Rattle.sheet.specs.KnownLaws.{none-left, all-left, next-step}
 use Rattle.sheet.specs.declared.Steps.{Steps}
 use Rattle.edges.specs.Edges.{edges, image, gather, emptyRows, anyPasses}
 use Rattle.evaluate.specs.Evaluation.{Tables, tables, all, forward, backward, plainWord, wayWord, endRows, comparisonWord, pairWord, entryWord, evaluatedFrom, evaluated}
-use Rattle.evaluate.specs.Writing.{over, over-next}
+use Rattle.evaluate.specs.WritingLaws.{over, over-next}
 
 -- ---- the words that numbers and tests name
 pub read-at : (ws : List ℕ) (k j : ℕ) → k ≡ j → getD ws k 0 ≡ getD ws j 0

@@ -1,5 +1,5 @@
--- The words of a sheet's questions in a graph, and how they are computed: entry by entry, from the words of the entries before.
--- `Evaluated` says that what is computed is the word of the entry's question.
+-- How the words of a sheet's questions in a graph (`QuestionWord`) are computed: entry by entry, from the words of the entries before.
+-- `EvaluatedLaws` says that what is computed is the word of the entry's question.
 use mathlib.Core.List.{List, [], _∷_}
 use mathlib.Core.Path.{_≡_}
 use Prim.Native.Nat.{ℕ, zero, suc, _+_, _-_, _^_, _≤_, _<_}
@@ -8,21 +8,11 @@ use lib.ListN.{getD, set}
 use Rattle.theory.specs.Search.{list}
 use Rattle.theory.specs.Graph.{Comparison, same, differ, Graph, Link, WellFormed}
 use Rattle.theory.specs.Expression.{NodeExpr}
-use Rattle.theory.specs.Meaning.{holds}
 use Rattle.words.specs.Words.{wordOf}
 use Rattle.sheet.specs.Entry.{Step, Entry, truth, negation, conjunction, disjunction, way, comparison, firstWay, secondWay, named}
-use Rattle.sheet.specs.Sheet.{headSize, entryAt, nextAt, questionOf}
+use Rattle.sheet.specs.Sheet.{headSize, entryAt, nextAt}
+use Rattle.evaluate.specs.QuestionWord.{truthWord}
 use Rattle.edges.specs.Edges.{edges, image, gather, emptyRows, anyPasses, Rows}
-
--- ---- what is asked for
-
--- "Word k gets bit i (value 2 to the i) exactly when entry k is true at cell i; bits from n up are 0": the nodes where q holds, as a word.
-abbrev pub truthWord : Graph → NodeExpr → ℕ
-truthWord g q = wordOf (g .size) (holds g q)
-
--- The word of entry k of the sheet s.
-abbrev pub questionWord : Graph → List ℕ → ℕ → ℕ
-questionWord g s k = truthWord g (questionOf s k)
 
 -- ---- the tables that are made of a graph once
 

@@ -1,4 +1,5 @@
+pub mod QuestionWord
 pub mod Evaluation
-pub mod Ways
-pub mod Writing
-pub mod Evaluated
+pub mod WayLaws
+pub mod WritingLaws
+pub mod EvaluatedLaws

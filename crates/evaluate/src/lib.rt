@@ -35,15 +35,15 @@ fn plain_word(every: u64, sheet: &[u8], at: usize, known: &[u64]) -> u64
     ensures { λ r. ⌜ r ≡ plainWord every (now (known .entry)) (entryAt (now (sheet .entry)) at) ⌝ }
 {
     let kind = sheet::kind(sheet, at);
-    if kind == 0 {
+    if kind == sheet::KIND_TRUE {
         return every;
     }
     let a = named_word(sheet, at, 0, known);
-    if kind == 1 {
+    if kind == sheet::KIND_NOT {
         return every ^ a;
     }
     let b = named_word(sheet, at, 1, known);
-    if kind == 2 {
+    if kind == sheet::KIND_AND {
         return words::meet(a, b);
     }
     words::union(a, b)
@@ -167,14 +167,14 @@ fn entry_word(
     ensures { λ r. ⌜ r ≡ entryWord (tables n count (now (from .entry)) (now (labels .entry)) (now (to .entry)) (now (same .entry)) (now (differ .entry))) (now (known .entry)) (entryAt (now (sheet .entry)) at) ⌝ }
 {
     let kind = sheet::kind(sheet, at);
-    if kind < 4 {
+    if kind < sheet::KIND_WAY {
         return plain_word(words::full(n), sheet, at, known);
     }
-    if kind == 4 {
+    if kind == sheet::KIND_WAY {
         let way = sheet::first_way(sheet, at);
         return way_word(words::full(n), count, from, labels, to, sheet, way, known);
     }
-    if kind == 5 {
+    if kind == sheet::KIND_SAME {
         return pair_word(n, count, from, labels, to, same, sheet, at, known);
     }
     pair_word(n, count, from, labels, to, differ, sheet, at, known)

@@ -1,5 +1,4 @@
 -- The laws of fields, over the width: parts and bounds, where a field lies in a list, the bytes of a number, and what a written field leaves.
--- Assumes nothing.
 use mathlib.Core.Path.{_≡_, refl, sym, ap, ap₂, _∙_}
 use mathlib.Core.Logic.{_⊎_, inl, inr, ⊎-elim}
 use mathlib.Core.List.{List, [], _∷_, _++_, append-assoc}

@@ -1,4 +1,4 @@
--- Laws of runs of bytes: one behind another, and the room that is left for the rest. Assumes nothing.
+-- Laws of runs of bytes: one behind another, and the room that is left for the rest.
 use mathlib.Core.List.{List, [], _++_}
 use mathlib.Core.Path.{_≡_, refl, sym, ap, _∙_}
 use Prim.Native.Nat.{ℕ, _+_, _≤_}

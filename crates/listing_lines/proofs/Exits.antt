@@ -1,4 +1,4 @@
--- What the writers of lines leave. Assumes nothing.
+-- What the writers of lines leave.
 use mathlib.Core.Bool.{not}
 use mathlib.Core.List.{List, _++_, append-nil}
 use mathlib.Core.Path.{_≡_, refl, sym, _∙_}
@@ -8,7 +8,7 @@ use native.Mathlib.Numerals.{add-one}
 use native.Mathlib.Omega.{arith}
 use lib.ListN.{length, take}
 use Rattle.theory.specs.Bisimulation.{Relation}
-use Rattle.refinement.specs.Places.{unparted}
+use Rattle.compare_laws.specs.Places.{unparted}
 use Rattle.words.specs.Words.{tally}
 use Rattle.answers.specs.Row.{rowAnswer}
 use Rattle.answers.specs.RowLaws.{Whole, row-given, row-answered}

@@ -1,4 +1,4 @@
--- Laws of the lines of a listing. Assumes nothing.
+-- Laws of the lines of a listing.
 use mathlib.Core.Bool.{Bool, true, false, not}
 use mathlib.Core.List.{_++_}
 use mathlib.Core.Path.{_≡_, refl, sym, ap, ap₂}

@@ -1,7 +1,7 @@
 // The lines of a listing, written into lent bytes.
 ghost use Prim.Native.Nat.{_+_, _*_, _≤_};
 ghost use lib.ListN.{length};
-ghost use Rattle.refinement.specs.Places.{unparted};
+ghost use Rattle.compare_laws.specs.Places.{unparted};
 ghost use Rattle.words.specs.Words.{tally};
 ghost use Rattle.answers.specs.RowLaws.{Whole};
 ghost use Rattle.text.specs.Text.{Wrote};

@@ -1,4 +1,4 @@
--- The split of an input, and which line is written. Assumes nothing.
+-- The split of an input, and which line is written.
 use mathlib.Core.Bool.{Bool, true, false}
 use mathlib.Core.List.{List}
 use mathlib.Core.Path.{_≡_, sym, _∙_}

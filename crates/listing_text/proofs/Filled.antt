@@ -1,4 +1,4 @@
--- What Compare leaves in the map of two books that are listed, and the listing of that map. Assumes nothing.
+-- What Compare leaves in the map of two books that are listed, and the listing of that map.
 use mathlib.Core.List.{List}
 use mathlib.Core.Path.{_≡_, sym, ap, _∙_}
 use Prim.Native.Nat.{ℕ, _*_, _^_, _≤_, _<_}
@@ -9,8 +9,9 @@ use lib.Seq.{length-take-le}
 use Rattle.theory.specs.Rounds.{matched}
 use Rattle.book.specs.Book.{cellsOf}
 use Rattle.book.specs.BookGraph.{graphOf}
-use Rattle.book.specs.Accepted.{book-sizes}
-use Rattle.refinement.specs.Places.{unparted, zeros, among-at}
+use Rattle.book.specs.AcceptedLaws.{book-sizes}
+use Rattle.compare_laws.specs.Places.{unparted, zeros}
+use Rattle.compare_laws.specs.PlaceLaws.{among-at}
 use mir.Syntax.{w8}
 use mir.Val.{Fits}
 use Rattle.compare.specs.Compare.{pairsOf, comparedMap, comparedSheet, Lists, leftBy, lent, rightAnswer, IsCompare}

@@ -1,4 +1,4 @@
--- Worked listings (01, "Examples" and "The listing program"), computed by the definition. Assumes nothing.
+-- Worked listings (01, "Examples" and "The listing program"), computed by the definition.
 use mathlib.Core.List.{List, [], _∷_, _++_, map}
 use mathlib.Core.Path.{_≡_, refl}
 use Prim.Native.Nat.{ℕ}

@@ -9,7 +9,7 @@ use Rattle.theory.specs.Rounds.{matched}
 use Rattle.book.specs.Book.{lengthOf, cellsOf, bookRefusal}
 use Rattle.book.specs.BookGraph.{graphOf}
 use Rattle.sheet.specs.Sheet.{mostBound}
-use Rattle.refinement.specs.Theorems.{zeroPairs}
+use Rattle.compare_laws.specs.Places.{zeroPairs}
 use Rattle.compare.specs.Compare.{pairsOf}
 use Rattle.io.specs.Counts.{Counts}
 use Rattle.text.specs.Text.{ascii, ending}

@@ -20,9 +20,6 @@ const MOST_INPUT: usize = 8192;
 // The most cells of a book that is listed.
 const MOST_CELLS: usize = 32;
 
-// The largest bound.
-const MOST_BOUND: u8 = 4;
-
 // How many of the bytes that follow c are the left book's.
 fn left_length(books: &[u8]) -> usize
     ensures { λ r. ⌜ IsSplit (now (books .entry)) r ⌝ }
@@ -114,7 +111,7 @@ fn bound_refused(input: &[u8]) -> bool
     if input.len() == 0 {
         return true;
     }
-    MOST_BOUND < input[0]
+    sheet::MOST_BOUND < input[0]
 }
 
 // Writes the listing of the books that follow the byte c.

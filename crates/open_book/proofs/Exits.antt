@@ -1,4 +1,4 @@
--- What each way out of the functions on bytes and counts shows of the definitions of `specs/`. Assumes nothing.
+-- What each way out of the functions on bytes and counts shows of the definitions of `specs/`.
 use mathlib.Core.Bool.{Bool, false, So}
 use mathlib.Core.Path.{_≡_, sym, _∙_}
 use mathlib.Core.List.{List, []}
@@ -8,10 +8,10 @@ use native.Mathlib.Omega.{arith}
 use borrow.Author.Tests.{lt-ltb, le-ltb, ltb-true, leb-true, eq-eqb, ne-eqb}
 use lib.Dec.{leb}
 use lib.ListN.{length, take, drop}
-use Rattle.theory.specs.Tests.{and-iff}
+use Rattle.theory.specs.TestLaws.{and-iff}
 use Rattle.book.specs.Book.{recordingPlace, recordingAt, labelWidth, linkWidth, linkStart, linkIn, bookAnswer}
 use Rattle.book.specs.BookLinks.{linksBefore, linksAfter}
-use Rattle.book.specs.Outgoing.{before-rises}
+use Rattle.book.specs.OutgoingLaws.{before-rises}
 use Rattle.book.specs.declared.BookAnswer.{BookAnswer}
 use Rattle.book.specs.declared.BookAnswer.the-variants.{Accepted, Refused}
 use Rattle.book.specs.declared.Recording.{Recording}

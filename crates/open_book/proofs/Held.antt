@@ -6,7 +6,7 @@
 --     Own, Fields, WithCell       what the struct owns, what its fields own, and what they and the number own
 --     apart                       what the struct owns gives what its fields own, and is kept: the struct is Copy
 --     with-cell                   what its fields own gives what they and the number own, where the number fits
--- `apart` and `with-cell` take `Given`. The rest assumes nothing.
+-- `apart` and `with-cell` take `Given`.
 use mathlib.Core.Path.{_≡_, refl}
 use Prim.Native.Nat.{ℕ, _<_, _^_}
 use mathlib.Core.List.{List, [], _∷_}

@@ -1,2 +1,2 @@
 pub mod Opened
-pub mod Reading
+pub mod ReadingLaws

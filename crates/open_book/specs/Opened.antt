@@ -5,7 +5,6 @@ use Prim.Native.Nat.{ℕ, _+_, _-_}
 use lib.Dec.{eqb, ltb, leb}
 use lib.ListN.{length, take, drop}
 use denote.Ref.{RefT, now}
-use Rattle.outcome.specs.Outcome.{Outcome, accepted, refused, ofCall}
 use Rattle.book.specs.Book.{cellsOf, recordingAt, linkStart, bookRefusal, bookAnswer}
 use Rattle.book.specs.BookLinks.{linksBefore, linksAfter}
 use Rattle.book.specs.declared.BookAnswer.{BookAnswer}
@@ -69,8 +68,3 @@ openPart b x = partKept (now (b .bytes)) (b .cells) (b .links) x
 unfoldable pub recordingAnswer : List ℕ → ℕ → RecordingAnswer
 recordingAnswer s x =
     cond (eqb (bookRefusal s) 0 && ltb x (cellsOf s)) (Recorded (record { 0 = recordingAt s x })) NoCell
-
--- 01's numbers of an answer: the recording; or 26, of the call.
-abbrev pub recordingOutcome : RecordingAnswer → Outcome
-recordingOutcome (Recorded recording) = accepted (recording .0) 0
-recordingOutcome NoCell = refused ofCall 26

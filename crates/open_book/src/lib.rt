@@ -1,5 +1,5 @@
 // An opened book (01: "opens a checked book once and keeps its bytes and counts for reading links"): a struct that holds the lent bytes and
-// the counts n and e. Its readers go by these and check the book no second time. Each takes the struct apart and leaves the work to a
+// the counts n and e. Its readers go by these, and check an accepted book no second time. Each takes the struct apart and leaves the work to a
 // function on the slice and the numbers.
 ghost use mathlib.Core.Path.{_≡_};
 ghost use Prim.Native.Nat.{_≤_, _<_};
@@ -14,7 +14,8 @@ pub struct Counts {
     pub links: u16,
 }
 
-// What an opened book answers of a cell's recording: the recording, or that the book has no such cell (26).
+// What an opened book answers of a cell's recording: the recording, or that the book has no such cell. (A reader, and no operation with
+// refusals of its own numbers.)
 pub enum RecordingAnswer {
     Recorded(book::Recording),
     NoCell,

@@ -1,2 +1,4 @@
 pub mod Outcome
+pub mod OutcomeLaws
 pub mod Refusals
+pub mod RefusalLaws

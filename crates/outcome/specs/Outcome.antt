@@ -1,7 +1,5 @@
 -- How an operation's answer is told as numbers, and these as one number for C.
-use mathlib.Core.Path.{_≡_}
 use Prim.Native.Nat.{ℕ, _+_, _*_, _^_, _<_}
-use native.Mathlib.Omega.{arith}
 
 -- What an operation answers: 01's number of the refusal (0: accepted), the part that it speaks of, and two values.
 pub record Outcome : Type 0 where
@@ -43,23 +41,9 @@ refused part number = outcome number part 0 0
 unfoldable pub code : Outcome → ℕ
 code o = o .refusal + 2 ^ 8 * o .part + 2 ^ 16 * o .first + 2 ^ 40 * o .second
 
--- Each number has room in its bits.
+-- Each number has room in its bits: then they can be told from the one number (`OutcomeLaws`).
 pub record Fits (o : Outcome) : Type 0 where
   pub refusal : o .refusal < 2 ^ 8
   pub part : o .part < 2 ^ 8
   pub first : o .first < 2 ^ 24
   pub second : o .second < 2 ^ 24
-
--- The number tells the outcome: its highest bits first, each of the four numbers is the same.
-pub code-injective : (o p : Outcome) → Fits o → Fits p → code o ≡ code p → o ≡ p
-unfolding code
-code-injective o p f g e =
-    let d : o .second ≡ p .second = same (λ h. omega arith) (λ h. omega arith) in
-    let c : o .first ≡ p .first = same (λ h. omega arith) (λ h. omega arith) in
-    let b : o .part ≡ p .part = same (λ h. omega arith) (λ h. omega arith) in
-    let a : o .refusal ≡ p .refusal = omega arith in
-    let all : outcome (o .refusal) (o .part) (o .first) (o .second) ≡ outcome (p .refusal) (p .part) (p .first) (p .second) = cc in
-    all
-  where
-    same : {m n : ℕ} → (m < n → ⊥) → (n < m → ⊥) → m ≡ n
-    same f g = omega arith

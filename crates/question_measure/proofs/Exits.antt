@@ -1,4 +1,4 @@
--- What the functions return that measure a question: a law for each exit and each turn of a loop. Assumes nothing.
+-- What the functions return that measure a question: a law for each exit and each turn of a loop.
 use mathlib.Core.List.{List, [], _∷_}
 use mathlib.Core.Path.{_≡_, refl, sym, ap, ap₂, _∙_}
 use Prim.Native.Nat.{ℕ, _+_, _-_, min, _≤_, _<_}
@@ -7,14 +7,14 @@ use borrow.Author.Tests.{lt-ltb, le-ltb, eq-eqb, ne-eqb}
 use lib.ListN.{length, getD, set, drop}
 use Rattle.sheet.specs.Entry.{Step, expressions, kindOf, firstWay, secondWay, stepIn, numbers}
 use Rattle.sheet.specs.Sheet.{entriesOf, entryAt, entryStart, questionOf}
-use Rattle.sheet.specs.Accepted.{length-steps, accepted-question}
+use Rattle.sheet.specs.AcceptedLaws.{length-steps, accepted-question}
 use Rattle.sheet.specs.Reading.{HasWay, Reads, stepsOf}
 use Rattle.sheet.specs.Known.{EntryKnown, EntriesFit}
 use Rattle.sheet.specs.KnownLaws.{none-left, all-left, next-step, fit-earlier}
 use Rattle.sheet.specs.declared.Steps.{Steps}
 use Rattle.text.specs.Text.{decimal}
 use Rattle.question_measure.specs.Measures.{chainCap, lengthCap, measured, beside, longer, referred, stepMeasure, stepsMeasure, wayMeasure, plainBy, waysBy, plainMeasure, waysMeasure, entryMeasure}
-use Rattle.question_measure.specs.Holds.{holds-none, holds-next}
+use Rattle.question_measure.specs.HoldsLaws.{holds-none, holds-next}
 use Rattle.question_measure.specs.MeasureLaws.{Measured, entry-measured}
 use Rattle.question_measure.specs.declared.Measure.{Measure}
 

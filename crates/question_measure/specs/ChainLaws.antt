@@ -1,4 +1,4 @@
--- What a chain of references is in terms of a sheet's entries and the numbers in them. Assumes nothing.
+-- What a chain of references is in terms of a sheet's entries and the numbers in them.
 use mathlib.Core.List.{List, [], _∷_, _++_}
 use mathlib.Core.Path.{_≡_, refl, ap, ap₂, _∙_}
 use Prim.Native.Nat.{ℕ, suc, max, _<_}
@@ -6,7 +6,7 @@ use native.Mathlib.Omega.{arith}
 use Rattle.theory.specs.Expression.{NodeExpr}
 use Rattle.sheet.specs.Entry.{Step, Entry, truth, negation, conjunction, disjunction, way, comparison, named, spellWay, spell, tests, numbers}
 use Rattle.sheet.specs.Sheet.{countOf, entryAt, entryStart, questionOf, sheetRefusal}
-use Rattle.sheet.specs.Accepted.{accepted-question}
+use Rattle.sheet.specs.AcceptedLaws.{accepted-question}
 use Rattle.question_measure.specs.Text.{wayChain, chain}
 
 -- One reference more than the longest of the chains f i, of the entries i that are named; none if none is named.

@@ -1,4 +1,4 @@
--- What is computed entry by entry is the measure of the entry's question. Assumes nothing.
+-- What is computed entry by entry is the measure of the entry's question.
 use mathlib.Core.List.{List, [], _∷_, _++_}
 use mathlib.Core.Path.{_≡_, refl, ap, ap₂, _∙_}
 use Prim.Native.Nat.{ℕ, suc, _+_, min, max, _<_}
@@ -7,7 +7,7 @@ use lib.ListN.{length, length-append}
 use Rattle.theory.specs.Graph.{same, differ}
 use Rattle.theory.specs.Expression.{NodeExpr}
 use Rattle.sheet.specs.Entry.{Step, Entry, truth, negation, conjunction, disjunction, way, comparison, kindOf, firstWay, secondWay, named, spellWay, spell, tests, numbers, Below}
-use Rattle.sheet.specs.Expressions.{below-append}
+use Rattle.sheet.specs.ExpressionLaws.{below-append}
 use Rattle.sheet.specs.Sheet.{questionOf}
 use Rattle.text.specs.Text.{ascii, decimal}
 use Rattle.question_measure.specs.Text.{signText, orStay, stepsText, questionText, wayText, textLength, wayChain, chain}

@@ -1,6 +1,6 @@
 -- A text read back is the question that was written: two entries of accepted sheets, of one or of two, that have one text have one question.
 -- The argument: each reader undoes its writer, whatever follows the text. A number ends at the first byte that is no digit, a way's steps at the first
--- byte that is no slash, and every other construct at its closing byte; so by induction on the bytes that may still be read. Assumes nothing.
+-- byte that is no slash, and every other construct at its closing byte; so by induction on the bytes that may still be read.
 use mathlib.Core.Bool.{Bool, true, false}
 use mathlib.Core.List.{List, [], _∷_, _++_, append-assoc, append-nil}
 use mathlib.Core.Path.{_≡_, refl, sym, ap, _∙_}
@@ -12,9 +12,9 @@ use lib.ListN.{length, length-append}
 use Rattle.theory.specs.Graph.{same, differ}
 use Rattle.theory.specs.Expression.{NodeExpr, test, neg, conj, disj, exists, compare, always}
 use Rattle.sheet.specs.Entry.{Step, Entry, truth, negation, conjunction, disjunction, way, comparison, named, spellWay, spell, expressions, tests, numbers, Below}
-use Rattle.sheet.specs.Expressions.{below-append}
+use Rattle.sheet.specs.ExpressionLaws.{below-append}
 use Rattle.sheet.specs.Sheet.{countOf, entriesOf, entryAt, entryStart, questionOf, sheetRefusal}
-use Rattle.sheet.specs.Accepted.{well-formed-entry, accepted-standing, accepted-question}
+use Rattle.sheet.specs.AcceptedLaws.{well-formed-entry, accepted-standing, accepted-question}
 use Rattle.text.specs.Text.{digit, decimal}
 use Rattle.text.specs.Laws.{decimal-one, decimal-more}
 use Rattle.question_measure.specs.Text.{signText, orStay, stepsText, questionText, wayText}

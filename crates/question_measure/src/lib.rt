@@ -162,14 +162,14 @@ fn plain_measure(sheet: &[u8], at: usize, chains: &[u16], lengths: &[u64]) -> Me
     ensures { λ r. ⌜ r ≡ plainMeasure (now (chains .entry)) (now (lengths .entry)) (entryAt (now (sheet .entry)) at) ⌝ }
 {
     let kind = sheet::kind(sheet, at);
-    if kind == 0 {
+    if kind == sheet::KIND_TRUE {
         return Measure {
             chain: 0,
             length: 3,
         };
     }
     let a = named(sheet, at, 0, chains, lengths);
-    if kind == 1 {
+    if kind == sheet::KIND_NOT {
         return longer(a, 3);
     }
     let b = named(sheet, at, 1, chains, lengths);
@@ -184,12 +184,12 @@ fn ways_measure(sheet: &[u8], at: usize, chains: &[u16], lengths: &[u64]) -> Mea
     let kind = sheet::kind(sheet, at);
     let first = sheet::first_way(sheet, at);
     let a = way_measure(sheet, first, chains, lengths);
-    if kind == 4 {
+    if kind == sheet::KIND_WAY {
         return longer(a, 2);
     }
     let second = sheet::second_way(sheet, at);
     let b = way_measure(sheet, second, chains, lengths);
-    if kind == 5 {
+    if kind == sheet::KIND_SAME {
         return longer(beside(a, b), 3);
     }
     longer(beside(a, b), 4)
@@ -201,7 +201,7 @@ fn entry_measure(sheet: &[u8], at: usize, chains: &[u16], lengths: &[u64]) -> Me
     ensures { λ r. ⌜ r ≡ entryMeasure (now (chains .entry)) (now (lengths .entry)) (entryAt (now (sheet .entry)) at) ⌝ }
 {
     let kind = sheet::kind(sheet, at);
-    if kind < 4 {
+    if kind < sheet::KIND_WAY {
         return plain_measure(sheet, at, chains, lengths);
     }
     ways_measure(sheet, at, chains, lengths)
@@ -223,7 +223,7 @@ fn list_measures(sheet: &[u8], upto: usize, chains: &mut [u16], lengths: &mut [u
     }
 }
 
-// The longest chain and the length of the text of an entry's question, each up to its limit. It goes once through the sheet up to the entry.
+// The longest chain and the length of the text of an entry's question, each up to its limit.
 pub fn measure_of(sheet: &[u8], question: Question) -> Measure
     requires { ⌜ (sheetRefusal (now sheet) ≡ 0) × (question .0 < countOf (now sheet)) ⌝ }
     ensures { λ r. ⌜ r ≡ measured (questionOf (now (sheet .entry)) (question .0)) ⌝ }

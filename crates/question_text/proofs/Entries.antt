@@ -1,4 +1,4 @@
--- The text of an entry by its kind, and what is known of an entry that is to be written. Assumes nothing.
+-- The text of an entry by its kind, and what is known of an entry that is to be written.
 use mathlib.Core.List.{List, [], _∷_, _++_}
 use mathlib.Core.Path.{_≡_, refl, ap}
 use Prim.Native.Nat.{ℕ, _+_, _*_, _≤_, _<_}
@@ -6,14 +6,15 @@ use native.Mathlib.Omega.{arith}
 use lib.ListN.{length, getD}
 use Rattle.theory.specs.Graph.{same, differ}
 use Rattle.theory.specs.Expression.{NodeExpr}
-use Rattle.sheet.specs.Entry.{Entry, truth, negation, conjunction, disjunction, way, comparison, kindOf, firstWay, secondWay, named, spellWay, spell, numbers, mostSteps, Short, Below}
+use Rattle.sheet.specs.Entry.{onlyVersion, Entry, truth, negation, conjunction, disjunction, way, comparison, kindOf, firstWay, secondWay, named, spellWay, spell, numbers, mostSteps, Short, Below}
 use Rattle.sheet.specs.Sheet.{mostBound, boundOf, entryAt}
-use Rattle.sheet.specs.Accepted.{well-formed-entry, accepted-standing, accepted-question}
-use Rattle.sheet.specs.Reading.{Readable, HasNumber, readable}
+use Rattle.sheet.specs.AcceptedLaws.{well-formed-entry, accepted-standing, accepted-question}
+use Rattle.sheet.specs.Reading.{Readable, HasNumber}
+use Rattle.sheet.specs.ReadingLaws.{readable}
 use Rattle.sheet.specs.KnownLaws.{below-at}
 use Rattle.text.specs.Text.{ascii}
 use Rattle.question_measure.specs.Text.{orStay, stepsText, questionText, wayText}
-use Rattle.question_measure.specs.Holds.{holds-fewer}
+use Rattle.question_measure.specs.HoldsLaws.{holds-fewer}
 use Rattle.question_text.specs.Answer.{textOf}
 use Rattle.question_text.specs.Writing.{Started, Entered, junctionBy, signBy, questionsOf}
 
@@ -75,7 +76,7 @@ module _ (qs : List NodeExpr) where
 
 -- ---- the ways of an entry are short
 
-pub few-first : (c : ℕ) (e : Entry) → c ≤ mostBound → Short c e → (length (firstWay e) ≤ mostSteps) × (length (secondWay e) ≤ mostSteps)
+pub few-first : (c : ℕ) (e : Entry) → c ≤ mostBound → Short c e → (length (firstWay e) ≤ mostSteps onlyVersion) × (length (secondWay e) ≤ mostSteps onlyVersion)
 unfolding Short firstWay secondWay
 few-first c truth h k = (omega arith, omega arith)
 few-first c (negation i) h k = (omega arith, omega arith)

@@ -1,4 +1,4 @@
--- What each way out of the two operations shows of the definitions of `specs/`. Assumes nothing.
+-- What each way out of the two operations shows of the definitions of `specs/`.
 use mathlib.Core.Bool.{false}
 use mathlib.Core.List.{List, _++_}
 use mathlib.Core.Path.{_≡_, refl, sym, ap, _∙_}
@@ -12,7 +12,7 @@ use Rattle.fields.specs.Runs.{PutBytes}
 use Rattle.outcome.specs.Outcome.{code}
 use Rattle.theory.specs.Expression.{NodeExpr}
 use Rattle.sheet.specs.Sheet.{countOf, questionOf, sheetRefusal, sheetAnswer}
-use Rattle.sheet.specs.Accepted.{answer-accepting, answer-refusing}
+use Rattle.sheet.specs.AcceptedLaws.{answer-accepting, answer-refusing}
 use Rattle.sheet.specs.declared.SheetAnswer.{SheetAnswer}
 use Rattle.sheet.specs.declared.SheetAnswer.the-variants as sheet
 use Rattle.question_measure.specs.Text.{textLength, chain, mostChain, mostLength}

@@ -1,4 +1,4 @@
--- The small pieces of a text, and where the entries start: a law for each exit and each turn of a loop. Assumes nothing.
+-- The small pieces of a text, and where the entries start: a law for each exit and each turn of a loop.
 use mathlib.Core.List.{List, [], _∷_}
 use mathlib.Core.Path.{_≡_, refl}
 use Prim.Native.Nat.{ℕ, _+_, _^_, _≤_, _<_}
@@ -10,12 +10,13 @@ use Rattle.fields.specs.Laws.{field-lt}
 use Rattle.fields.specs.Runs.{PutBytes}
 use Rattle.fields.specs.RunLaws.{put-after, rest-fits}
 use Rattle.sheet.specs.Sheet.{entryStart}
-use Rattle.sheet.specs.Passed.{accepted-head}
+use Rattle.sheet.specs.PassedLaws.{accepted-head}
 use Rattle.sheet.specs.Known.{EntriesFit}
 use Rattle.sheet.specs.KnownLaws.{fit-readable}
 use Rattle.text.specs.Text.{ascii, decimal}
 use Rattle.question_measure.specs.Text.{signText}
-use Rattle.question_measure.specs.Holds.{Holds, holds-next}
+use Rattle.question_measure.specs.Holds.{Holds}
+use Rattle.question_measure.specs.HoldsLaws.{holds-next}
 use Rattle.question_text.specs.Writing.{Started, labelText, junctionBy, signBy}
 
 pub both-put : (room mid exit : List ℕ) (at a b to next : ℕ) → PutBytes room at (a ∷ []) mid to → PutBytes mid to (b ∷ []) exit next → PutBytes room at (a ∷ b ∷ []) exit next

@@ -1,4 +1,4 @@
--- The writers of questions: what each call needs and what each exit leaves, piece by piece. Assumes nothing.
+-- The writers of questions: what each call needs and what each exit leaves, piece by piece.
 use mathlib.Core.List.{List, [], _∷_, _++_, append-assoc}
 use mathlib.Core.Path.{_≡_, refl, sym, ap, _∙_}
 use Prim.Native.Nat.{ℕ, _+_, _≤_, _<_}
@@ -8,7 +8,8 @@ use Rattle.fields.specs.Runs.{PutBytes}
 use Rattle.fields.specs.RunLaws.{put-as, put-after, piece-fits, rest-fits}
 use Rattle.sheet.specs.Entry.{kindOf, numbers}
 use Rattle.sheet.specs.Sheet.{entryAt}
-use Rattle.sheet.specs.Reading.{Readable, HasNumber, has-number}
+use Rattle.sheet.specs.Reading.{Readable, HasNumber}
+use Rattle.sheet.specs.ReadingLaws.{has-number}
 use Rattle.text.specs.Text.{ascii}
 use Rattle.question_text.specs.Answer.{textOf}
 use Rattle.question_text.specs.Writing.{Started, Entered, junctionBy, questionsOf, between}

@@ -1,4 +1,4 @@
--- The writers of ways: what each call needs and what each exit leaves, piece by piece. Assumes nothing.
+-- The writers of ways: what each call needs and what each exit leaves, piece by piece.
 use mathlib.Core.List.{List, [], _∷_, _++_, append-assoc, append-nil}
 use mathlib.Core.Bool.{Bool, true, false, cond}
 use mathlib.Core.Path.{_≡_, refl, sym, ap, _∙_}
@@ -9,12 +9,13 @@ use lib.ListN.{length, length-append}
 use Rattle.theory.specs.Expression.{NodeExpr}
 use Rattle.fields.specs.Runs.{PutBytes}
 use Rattle.fields.specs.RunLaws.{put-none, put-as, put-after, piece-fits, rest-fits}
-use Rattle.sheet.specs.Entry.{Step, kindOf, firstWay, secondWay, stepIn, named, spellWay, tests, mostSteps, Below}
-use Rattle.sheet.specs.Expressions.{below-append}
+use Rattle.sheet.specs.Entry.{onlyVersion, Step, kindOf, firstWay, secondWay, stepIn, named, spellWay, tests, mostSteps, Below}
+use Rattle.sheet.specs.ExpressionLaws.{below-append}
 use Rattle.sheet.specs.Sheet.{boundOf, stepWidth, stepAt, stepsAt, entryAt}
-use Rattle.sheet.specs.Passed.{accepted-head}
-use Rattle.sheet.specs.Accepted.{length-steps}
-use Rattle.sheet.specs.Reading.{HasWay, HasStep, Reads, stepsOf, test-below}
+use Rattle.sheet.specs.PassedLaws.{accepted-head}
+use Rattle.sheet.specs.AcceptedLaws.{length-steps}
+use Rattle.sheet.specs.Reading.{HasWay, HasStep, Reads, stepsOf}
+use Rattle.sheet.specs.ReadingLaws.{test-below}
 use Rattle.sheet.specs.KnownLaws.{ways-below}
 use Rattle.sheet.specs.declared.Steps.{Steps}
 use Rattle.text.specs.Text.{ascii, decimal}
@@ -25,13 +26,13 @@ use Rattle.question_text.proofs.Entries.{text-way, text-ways, few-first
 
 -- ---- the ways of entry k
 module _ (s starts : List ℕ) (k start : ℕ) (o : Entered s starts k start) where
-  few : (length (firstWay (entryAt s start)) ≤ mostSteps) × (length (secondWay (entryAt s start)) ≤ mostSteps)
+  few : (length (firstWay (entryAt s start)) ≤ mostSteps onlyVersion) × (length (secondWay (entryAt s start)) ≤ mostSteps onlyVersion)
   few = few-first (boundOf s) (entryAt s start) (accepted-head s (o .started .good) .bounded) (entered-short s starts k start o)
 
   earlier : Below k (tests (firstWay (entryAt s start))) × Below k (tests (secondWay (entryAt s start)))
   earlier = ways-below k (entryAt s start) (entered-earlier s starts k start o)
 
-  way-of : (p w : Steps) (ss : List Step) → Reads s p ss w → length ss ≤ mostSteps → Below k (tests ss) → WayOf s starts k w
+  way-of : (p w : Steps) (ss : List Step) → Reads s p ss w → length ss ≤ mostSteps onlyVersion → Below k (tests ss) → WayOf s starts k w
   way-of p w ss r l e =
       record {
         started = o .started;
@@ -157,12 +158,12 @@ module _ (s : List ℕ) (w : Steps) where
     steps-put exit next f p = put-as (sym (steps-some f)) p
 
 -- ---- put_steps
-stepsAt-add : (s : List ℕ) (at m n : ℕ) → stepsAt s at (m + n) ≡ stepsAt s at m ++ stepsAt s (at + stepWidth * m) n
+stepsAt-add : (s : List ℕ) (at m n : ℕ) → stepsAt s at (m + n) ≡ stepsAt s at m ++ stepsAt s (at + stepWidth onlyVersion * m) n
 unfolding stepsAt
-stepsAt-add s at zero n = rw (let e : at + stepWidth * 0 ≡ at = omega arith in e, let z : 0 + n ≡ n = omega arith in z)
+stepsAt-add s at zero n = rw (let e : at + stepWidth onlyVersion * 0 ≡ at = omega arith in e, let z : 0 + n ≡ n = omega arith in z)
 stepsAt-add s at (suc m) n =
-    rw (let e : suc m + n ≡ suc (m + n) = omega arith in e, let z : at + stepWidth * suc m ≡ at + stepWidth + stepWidth * m = omega arith in z)
-    (ap (λ l. stepAt s at ∷ l) (stepsAt-add s (at + stepWidth) m n))
+    rw (let e : suc m + n ≡ suc (m + n) = omega arith in e, let z : at + stepWidth onlyVersion * suc m ≡ at + stepWidth onlyVersion + stepWidth onlyVersion * m = omega arith in z)
+    (ap (λ l. stepAt s at ∷ l) (stepsAt-add s (at + stepWidth onlyVersion) m n))
 
 steps-append : (qs : List NodeExpr) (ss ts : List Step) → stepsText (spellWay qs (ss ++ ts)) ≡ stepsText (spellWay qs ss) ++ stepsText (spellWay qs ts)
 unfolding spellWay stepsText
@@ -185,7 +186,7 @@ module _ (s starts : List ℕ) (k : ℕ) (w : Steps) (o : WayOf s starts k w) (m
   front = record { start = w .start; count = m }
 
   back : Steps
-  back = record { start = w .start + stepWidth * m; count = w .count - m }
+  back = record { start = w .start + stepWidth onlyVersion * m; count = w .count - m }
 
   parted : stepsOf s w ≡ stepsOf s front ++ stepsOf s back
   unfolding front back

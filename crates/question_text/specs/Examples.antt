@@ -1,4 +1,4 @@
--- Worked texts, chains and answers, computed by the definitions. Assumes nothing.
+-- Worked texts, chains and answers, computed by the definitions.
 use mathlib.Core.List.{List, [], _∷_, map}
 use mathlib.Core.Path.{_≡_, refl}
 use Prim.Native.Nat.{ℕ, zero, suc}

@@ -1,4 +1,4 @@
--- Laws of the answers: what an answered length says, and the number that tells it. Assumes nothing.
+-- Laws of the answers: what an answered length says, and the number that tells it.
 use mathlib.Core.Bool.{Bool, true, false, cond}
 use mathlib.Core.List.{List}
 use mathlib.Core.Path.{_≡_, refl}

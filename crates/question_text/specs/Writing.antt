@@ -7,7 +7,7 @@ use lib.Dec.{eqb}
 use lib.ListN.{length}
 use Rattle.theory.specs.Graph.{same, differ}
 use Rattle.theory.specs.Expression.{NodeExpr}
-use Rattle.sheet.specs.Entry.{spellWay, expressions, tests, mostSteps, Below}
+use Rattle.sheet.specs.Entry.{onlyVersion, spellWay, expressions, tests, mostSteps, Below}
 use Rattle.sheet.specs.Sheet.{countOf, stepWidth, entriesOf, entryStart, sheetRefusal}
 use Rattle.sheet.specs.Reading.{stepsOf}
 use Rattle.sheet.specs.declared.Steps.{Steps}
@@ -43,8 +43,8 @@ pub record Entered (s starts : List ℕ) (k start : ℕ) : Type 0 where
 -- The steps of a way of entry k.
 pub record WayOf (s starts : List ℕ) (k : ℕ) (w : Steps) : Type 0 where
   pub started : Started s starts k
-  pub inside : w .start + stepWidth * w .count ≤ length s
-  pub few : w .count ≤ mostSteps
+  pub inside : w .start + stepWidth onlyVersion * w .count ≤ length s
+  pub few : w .count ≤ mostSteps onlyVersion
   pub earlier : Below k (tests (stepsOf s w))
 
 -- The start of a step: a slash and its label.

@@ -99,7 +99,7 @@ fn put_label(room: &mut [u8], at: usize, label: u64) -> usize
 fn junction(kind: u8) -> u8
     ensures { λ r. ⌜ r ≡ junctionBy kind ⌝ }
 {
-    if kind == 2 {
+    if kind == sheet::KIND_AND {
         return b'&';
     }
     b'|'
@@ -111,7 +111,7 @@ fn put_sign(room: &mut [u8], at: usize, kind: u8) -> usize
     requires { ⌜ at + 2 ≤ length (now room) ⌝ }
     ensures { λ r. ⌜ PutBytes (now (room .entry)) at (signBy kind) (now (room .exit)) r ⌝ }
 {
-    if kind == 5 {
+    if kind == sheet::KIND_SAME {
         return text::put_byte(room, at, b'=');
     }
     put_both(room, at, b'!', b'=')
@@ -127,17 +127,17 @@ fn put_question(sheet: &[u8], starts: &[u32], k: usize, room: &mut [u8], at: usi
 {
     let start = start_of(starts, k);
     let kind = sheet::kind(sheet, start);
-    if kind == 0 {
+    if kind == sheet::KIND_TRUE {
         let next = put_both(room, at, b'<', b'.');
         return text::put_byte(room, next, b'>');
     }
-    if kind == 1 {
+    if kind == sheet::KIND_NOT {
         return put_not(sheet, starts, k, start, room, at);
     }
-    if kind < 4 {
+    if kind < sheet::KIND_WAY {
         return put_two(sheet, starts, k, start, kind, room, at);
     }
-    if kind == 4 {
+    if kind == sheet::KIND_WAY {
         return put_exists(sheet, starts, k, start, room, at);
     }
     put_comparison(sheet, starts, k, start, kind, room, at)

@@ -1,4 +1,4 @@
--- What the search answers is what the theory chooses. Assumes nothing.
+-- What the search answers is what the theory chooses.
 use mathlib.Core.Bool.{Bool, true, false, So, cond, not, _&&_, false≢true}
 use mathlib.Core.Path.{_≡_, refl, sym, ap, ap₂, _∙_}
 use mathlib.Core.Logic.{_⊎_, inl, inr, ⊎-elim}
@@ -11,32 +11,32 @@ use lib.ListN.{length, getD}
 use lib.Pow.{pow-lt}
 use lib.Seq.{getD-take, length-take-le}
 use Rattle.theory.specs.Search.{any}
-use Rattle.theory.specs.Tests.{any-iff, and-iff, facts}
+use Rattle.theory.specs.TestLaws.{any-iff, and-iff, facts}
 use Rattle.theory.specs.Graph.{Comparison, same, differ, comparisons, Graph, linked}
 use Rattle.theory.specs.Path.{Hop, Path, Walk, end, out}
-use Rattle.theory.specs.Walks.{linked-inside, out-iff}
+use Rattle.theory.specs.WalkLaws.{linked-inside, out-iff}
 use Rattle.theory.specs.Bisimulation.{Relation}
 use Rattle.theory.specs.Rounds.{follow, met}
 use Rattle.theory.specs.Parting.{byLink, byPaths, LinkFails}
-use Rattle.theory.specs.Choosing.{Choice, none, some, orElse, when, firstIn, linkChoice, pairChoice, lengthsChoice, totalChoice, pathsChoice, chosen, first-none, list-first, list-none}
+use Rattle.theory.specs.Choosing.{Choice, none, some, orElse, when, firstIn, linkChoice, pairChoice, lengthsChoice, totalChoice, pathsChoice, chosen}
+use Rattle.theory.specs.ChoosingLaws.{first-none, list-first, list-none}
 use Rattle.words.specs.Words.{bit}
 use Rattle.words.specs.Laws.{bit-zero}
-use Rattle.hops.specs.Hops.{View, startOf, toOf, hopAt, Opened}
-use Rattle.classes.specs.Paths.{Leaves, Trail, pathOf, endsOver}
-use Rattle.classes.specs.Laws.{leaves-below, leaves-low, trail-links}
-use Rattle.routes.specs.declared.Route.{Route}
-use Rattle.routes.specs.declared.Pair.{Pair}
-use Rattle.routes.specs.Pairs.{kindOf, alone, failure, linksIn, Shaped, Clear, Shown}
-use Rattle.routes.specs.Laws.{test-off, some-node, kind-some}
-use Rattle.search.specs.declared.Steps.{Steps}
+use Rattle.search_links.specs.Hops.{View, startOf, toOf, hopAt, Opened}
+use Rattle.search_steps.specs.Paths.{Leaves, Trail, pathOf, endsOver}
+use Rattle.search_steps.specs.Laws.{leaves-below, leaves-low, trail-links}
+use Rattle.search_pairs.specs.declared.Route.{Route}
+use Rattle.search_pairs.specs.declared.Pair.{Pair}
+use Rattle.search_pairs.specs.Pairs.{kindOf, alone, failure, linksIn, Shaped, Clear, Shown}
+use Rattle.search_pairs.specs.Laws.{test-off, some-node, kind-some}
 use Rattle.search.specs.declared.Reason.{Reason}
-use Rattle.search.specs.Lengths.{Most, Sooner, Outcome, Unanswered, Single}
-use Rattle.search.specs.Reasons.{numberOf, Posed, stepsOf, reasonOf, choiceOf, Numbered, Answered}
-use Rattle.search.specs.Bridge.{leaves-linked, linked-leaves, trail-walk, relationOf, ends-from, over-lt, met-ext, alone-is}
+use Rattle.search.specs.Lengths.{Most, Sooner, Finding, Unanswered, Single}
+use Rattle.search.specs.Reasons.{numberOf, Posed, reasonOf, choiceOf, Numbered, Answered}
+use Rattle.search.specs.BridgeLaws.{leaves-linked, linked-leaves, trail-walk, relationOf, ends-from, over-lt, met-ext, alone-is}
 use Rattle.search.proofs.Firsts.{hops-first, trails-none, trails-first}
 
 module _ (v : View) (o : Opened (v .starts) (v .to)) (x : ℕ) (l : x < 64) where
-  numbered-of : (c d : ℕ) (w : Route) → Shaped d w → Trail v x (linksIn w) → d ≤ c → c ≤ 4 → Numbered (v .to) c (stepsOf w)
+  numbered-of : (c d : ℕ) (w : Route) → Shaped d w → Trail v x (linksIn w) → d ≤ c → c ≤ 4 → Numbered (v .to) c w
   numbered-of c d w h t m n = record {
     short = omega (arith, h .long);
     links = h .room;
@@ -216,15 +216,15 @@ module _ (v u : View) (rows ea eb : List ℕ) (a b c : ℕ) (o : Opened (v .star
         below = λ i m. let z : i ≡ 0 = omega arith in rw z (omega (arith, leaves-below v o a n low (l .found t .leaves), o .few));
         low = λ i m. let z : i ≡ 0 = omega arith in rw z (leaves-low v o a n low (l .found t .leaves));
       }),
-      ap (λ (w : Steps). w .len) e,
+      ap (λ (w : Route). w .len) e,
       f,
     );
     two = λ h. absurd (omega arith);
     is = λ g h z d. rw (k, e) (sym (ap (λ (x : Choice). orElse x (pathsChoice g h c z a b)) (links-first g h z v u rows ea eb a b d n (l .found t) (l .before))));
   }
 
-  module _ (t : startOf v (a + 1) ≤ n) (small : c ≤ 4) (r : Pair) (f : Outcome v u rows ea eb a b (Most c) r) (s : Reason) (k : s .kind ≡ r .kind)
-      (e : s .first ≡ stepsOf (r .first)) (e′ : s .second ≡ stepsOf (r .second)) where
+  module _ (t : startOf v (a + 1) ≤ n) (small : c ≤ 4) (r : Pair) (f : Finding v u rows ea eb a b (Most c) r) (s : Reason) (k : s .kind ≡ r .kind)
+      (e : s .first ≡ r .first) (e′ : s .second ≡ r .second) where
     -- the kind of two paths
     kinds : {i j : ℕ} → Shown v u rows ea eb a b i j r → (s .kind ≡ 0 → ⊥) → (s .kind ≡ 5) ⊎ (s .kind ≡ 6)
     unfolding failure

@@ -1,4 +1,4 @@
--- The first of the theory's links and paths, by the numbers of the links. Assumes nothing.
+-- The first of the theory's links and paths, by the numbers of the links.
 use mathlib.Core.Path.{_≡_, refl, sym, ap, _∙_}
 use mathlib.Core.Logic.{inl, inr, ⊎-elim}
 use mathlib.Core.List.{List, [], _∷_}
@@ -8,14 +8,15 @@ use native.Mathlib.Omega.{arith}
 use lib.ListN.{length}
 use Rattle.theory.specs.Graph.{Graph}
 use Rattle.theory.specs.Path.{Hop, Path}
-use Rattle.theory.specs.Walks.{linked-inside}
+use Rattle.theory.specs.WalkLaws.{linked-inside}
 use Rattle.theory.specs.Parting.{Reason as Cause}
-use Rattle.theory.specs.Choosing.{Choice, none, some, orElse, firstIn, pathsOf, first-none, first-onward, paths-of-iff}
-use Rattle.hops.specs.Hops.{View, startOf, toOf, hopAt, hopsFrom}
-use Rattle.classes.specs.Paths.{Leaves, Trail, pathOf}
-use Rattle.routes.specs.Pairs.{Before}
+use Rattle.theory.specs.Choosing.{Choice, none, some, orElse, firstIn, pathsOf}
+use Rattle.theory.specs.ChoosingLaws.{first-none, first-onward, paths-of-iff}
+use Rattle.search_links.specs.Hops.{View, startOf, toOf, hopAt, hopsFrom}
+use Rattle.search_steps.specs.Paths.{Leaves, Trail, pathOf}
+use Rattle.search_pairs.specs.Pairs.{Before}
 use Rattle.search.specs.Reasons.{Drawn}
-use Rattle.search.specs.Bridge.{path-length, leaves-linked, walk-trail}
+use Rattle.search.specs.BridgeLaws.{path-length, leaves-linked, walk-trail}
 
 -- the first of some links
 pub hops-first : (v : View) (f : Hop → Choice) (w : Cause) (k n m : ℕ) → k ≤ m → m < k + n → ((j : ℕ) → k ≤ j → j < m → f (hopAt v j) ≡ none)

@@ -1,4 +1,4 @@
--- The loop over single links. Assumes nothing.
+-- The loop over single links.
 use mathlib.Core.Path.{_≡_, sym, _∙_}
 use mathlib.Core.Logic.{⊎-elim}
 use mathlib.Core.List.{List}
@@ -6,8 +6,8 @@ use Prim.Native.Nat.{ℕ, _+_, _^_, _≤_, _<_}
 use native.Mathlib.Nat.{eq-or-lt-of-le}
 use native.Mathlib.Omega.{arith}
 use lib.ListN.{getD}
-use Rattle.hops.specs.Hops.{View, startOf, labelOf, toOf, total, Opened}
-use Rattle.classes.specs.Paths.{stepWord}
+use Rattle.search_links.specs.Hops.{View, startOf, labelOf, toOf, total, Opened}
+use Rattle.search_steps.specs.Paths.{stepWord}
 use Rattle.search.specs.Lengths.{Unanswered, Single}
 
 -- Each link before k has a counterpart.
@@ -22,16 +22,16 @@ module _ (v u : View) (z : List ℕ) (x y : ℕ) where
     pub links-end : (e : ℕ) → e ≡ startOf v (x + 1) → e ≤ k → Single v u z x y e
     links-end e d l = record { found = λ b. absurd (omega arith); before = λ j m n. h .each j (omega (arith, n .leaves .until)) n }
 
-    module _ (w r : ℕ) (dw : w ≡ 2 ^ y) (dr : r ≡ stepWord u z w (labelOf v k) (toOf v k)) where
+    module _ (w a b r : ℕ) (dw : w ≡ 2 ^ y) (da : a ≡ labelOf v k) (db : b ≡ toOf v k) (dr : r ≡ stepWord u z w a b) where
       pub links-found : (e : ℕ) → e ≡ startOf v (x + 1) → startOf v x ≤ k → k < e → r ≡ 0 → Single v u z x y k
       links-found e d m l q = record {
-        found = λ _. record { leaves = record { from = m; until = omega arith }; none = rw dw at (sym dr ∙ q) };
+        found = λ _. record { leaves = record { from = m; until = omega arith }; none = rw (dw, da, db) at (sym dr ∙ q) };
         before = h .each;
       }
 
       pub links-next : (r ≡ 0 → ⊥) → LinksTo v u z x y (k + 1)
       links-next n = record {
-        each = λ j l a. ⊎-elim (λ q. n (dr ∙ rw (dw, ← q) (a .none))) (λ s. h .each j s a) (eq-or-lt-of-le (under j l));
+        each = λ j l i. ⊎-elim (λ q. n (dr ∙ rw (dw, da, db, ← q) (i .none))) (λ s. h .each j s i) (eq-or-lt-of-le (under j l));
       }
         where
           under : (j : ℕ) → j < k + 1 → j ≤ k
@@ -42,5 +42,5 @@ pub until-few : (starts to : List ℕ) (x e : ℕ) → Opened starts to → x < 
 until-few starts to x e o l d = omega (arith, o .within (x + 1) (omega arith))
 
 -- a link that there is leads to a node that a word has room for
-pub link-low : (starts to : List ℕ) (k e : ℕ) → Opened starts to → e ≤ total starts → k < e → getD to k 0 < 64
-link-low starts to k e o m l = o .low k (omega arith)
+pub link-low : (starts to : List ℕ) (k e y : ℕ) → Opened starts to → e ≤ total starts → k < e → y ≡ getD to k 0 → y < 64
+link-low starts to k e y o m l d = rw d (o .low k (omega arith))

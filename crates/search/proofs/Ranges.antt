@@ -1,15 +1,15 @@
--- The ways out of the functions that go through the lengths. Assumes nothing.
+-- The ways out of the functions that go through the lengths.
 use mathlib.Core.Path.{_≡_, _∙_}
 use mathlib.Core.Logic.{inr, ⊎-elim}
 use mathlib.Core.List.{List}
 use Prim.Native.Nat.{ℕ, _+_, _-_, _/_, _≤_, _<_}
 use native.Mathlib.Nat.{eq-or-lt-of-le}
 use native.Mathlib.Omega.{arith}
-use Rattle.hops.specs.Hops.{View}
-use Rattle.routes.specs.declared.Pair.{Pair}
-use Rattle.routes.specs.Pairs.{Asked, Clear, Sought}
-use Rattle.covering.specs.Covering.{NoneFails}
-use Rattle.search.specs.Lengths.{Ready, Total, Most, Outcome}
+use Rattle.search_links.specs.Hops.{View}
+use Rattle.search_pairs.specs.declared.Pair.{Pair}
+use Rattle.search_pairs.specs.Pairs.{Asked, Clear, Sought}
+use Rattle.search_cover.specs.Covering.{NoneFails}
+use Rattle.search.specs.Lengths.{Ready, Total, Most, Finding}
 
 pub asked : (sa ta sb tb : List ℕ) (x y i j : ℕ) → Ready sa ta sb tb x y → i ≤ 4 → j ≤ 4 → Asked sa ta sb tb x y i j
 asked sa ta sb tb x y i j r li lj = record { left = r .left; right = r .right; cell = r .cell; partner = r .partner; first = li; second = lj }
@@ -38,10 +38,10 @@ module _ (v u : View) (z ea eb : List ℕ) (x y c s : ℕ) where
           (eq-or-lt-of-le (under k i m));
     }
 
-    pub lengths-end : s / 2 < i → (r : Pair) → r .kind ≡ 0 → Outcome v u z ea eb x y (Total c s) r
+    pub lengths-end : s / 2 < i → (r : Pair) → r .kind ≡ 0 → Finding v u z ea eb x y (Total c s) r
     lengths-end g r d = record { found = λ n. absurd (n d); none = λ _ k l w. h .each k l w (omega (arith, w .all, w .order)) }
 
-    pub lengths-found : s - c ≤ i → i ≤ s / 2 → (r : Pair) → Sought v u z ea eb x y i (s - i) r → (r .kind ≡ 0 → ⊥) → Outcome v u z ea eb x y (Total c s) r
+    pub lengths-found : s - c ≤ i → i ≤ s / 2 → (r : Pair) → Sought v u z ea eb x y i (s - i) r → (r .kind ≡ 0 → ⊥) → Finding v u z ea eb x y (Total c s) r
     lengths-found lo hi r o n = record {
       found = λ _. (
         i,
@@ -62,14 +62,14 @@ module _ (v u : View) (z ea eb : List ℕ) (x y c : ℕ) where
   totals-start = record { each = λ k l w m. absurd (omega arith) }
 
   -- nothing fails at all
-  pub totals-none : (r : Pair) → r .kind ≡ 0 → NoneFails v u z ea eb x y c → Outcome v u z ea eb x y (Most c) r
+  pub totals-none : (r : Pair) → r .kind ≡ 0 → NoneFails v u z ea eb x y c → Finding v u z ea eb x y (Most c) r
   totals-none r d h = record {
     found = λ n. absurd (n d);
     none = λ _ k l w. record { each = λ p q tp lp tq lq. h .each p q tp (omega (arith, w .order, w .most)) tq (omega (arith, w .most)) };
   }
 
   module _ (s : ℕ) (h : TotalsTo v u z ea eb x y c s) (r : Pair) where
-    pub totals-next : Outcome v u z ea eb x y (Total c s) r → r .kind ≡ 0 → TotalsTo v u z ea eb x y c (s + 1)
+    pub totals-next : Finding v u z ea eb x y (Total c s) r → r .kind ≡ 0 → TotalsTo v u z ea eb x y c (s + 1)
     totals-next o n = record {
       each = λ k l w m. ⊎-elim
           (λ q. o .none n k l (record { all = q; order = w .order; most = w .most }))
@@ -77,10 +77,10 @@ module _ (v u : View) (z ea eb : List ℕ) (x y c : ℕ) where
           (eq-or-lt-of-le (under (k + l) s m));
     }
 
-    pub totals-end : c + c < s → r .kind ≡ 0 → Outcome v u z ea eb x y (Most c) r
+    pub totals-end : c + c < s → r .kind ≡ 0 → Finding v u z ea eb x y (Most c) r
     totals-end g d = record { found = λ n. absurd (n d); none = λ _ k l w. h .each k l w (omega (arith, w .order, w .most)) }
 
-    pub totals-found : Outcome v u z ea eb x y (Total c s) r → (r .kind ≡ 0 → ⊥) → Outcome v u z ea eb x y (Most c) r
+    pub totals-found : Finding v u z ea eb x y (Total c s) r → (r .kind ≡ 0 → ⊥) → Finding v u z ea eb x y (Most c) r
     totals-found o n =
         let (i, j, w, f, b) = o .found n in
         record {

@@ -1,120 +1,17 @@
--- What a caller cites that has read two accepted books: their lists show their graphs. Assumes nothing.
-use mathlib.Core.Bool.{Bool, true, false, So, cond, not}
-use mathlib.Core.Path.{_≡_, refl, sym, ap, _∙_}
-use mathlib.Core.Logic.{_↔_}
+-- An accepted book, as the search reads it.
+use mathlib.Core.Path.{_≡_}
 use mathlib.Core.List.{List}
-use Prim.Native.Nat.{ℕ, zero, suc, _<_}
-use native.Mathlib.Omega.{arith}
-use borrow.Author.Tests.{eqb-true}
-use lib.Dec.{ltb}
-use lib.ListN.{getD}
-use Rattle.theory.specs.Tests.{never, and-iff, ltb-iff, list-at, eqb-turn}
-use Rattle.theory.specs.Graph.{Comparison, same, differ, compared}
-use Rattle.theory.specs.Bisimulation.{Relation}
-use Rattle.words.specs.Words.{bit, wordOf}
-use Rattle.words.specs.Laws.{bit-zero, bit-wordOf, bit-wordOf-lt}
-use Rattle.book.specs.Book.{cellsOf, linksOf, bookRefusal}
-use Rattle.book.specs.BookGraph.{graphOf}
-use Rattle.book.specs.Accepted.{book-sizes, book-graph, cell-few}
-use Rattle.edges.specs.Edges.{rowsTo}
-use Rattle.edges.specs.BookEdges.{Loaded, passingTo, passingRows, passing}
-use Rattle.edges.specs.BookLaws.{passing-rows}
-use Rattle.hops.specs.Hops.{viewOf, Opened, Starts}
-use Rattle.hops.specs.Sets.{rowAt, Paired, Valued}
-use Rattle.hops.specs.BookHops.{book-opened, book-out}
-use Rattle.search.specs.Lengths.{Ready}
-use Rattle.search.specs.Reasons.{numberOf, Drawn, Posed}
+use Prim.Native.Nat.{ℕ}
+use Rattle.theory.specs.Graph.{same, differ}
+use Rattle.book.specs.Book.{linksOf, bookRefusal}
+use Rattle.edges.specs.BookEdges.{Loaded, passing}
+use Rattle.search_links.specs.Hops.{Starts}
+use Rattle.search_links.specs.Sets.{Paired}
 
--- The lists hold an accepted book: its links (`edges::load`), their table of starts (`hops::starts`), and the rows of the cells that pass
--- each comparison (`edges::passing`, `hops::paired`).
+-- The lists hold an accepted book: its links (`edges::load`), their table of starts (`search_links::starts`), and the rows of the cells that pass
+-- each comparison (`edges::passing`, `search_links::paired`).
 pub record Read (s fs ls ts starts ends : List ℕ) : Type 0 where
   pub accepted : bookRefusal s ≡ 0
   pub loaded : Loaded s fs ls ts
   pub table : Starts (linksOf s) fs starts
   pub rows : Paired (passing s same) (passing s differ) ends
-
--- a comparison of data values is the same from both sides
-pub compared-symmetric : (value : ℕ → ℕ) (t : Comparison) (x y : ℕ) → compared value t x y ≡ true → compared value t y x ≡ true
-unfolding compared
-compared-symmetric value same x y e = eqb-turn (value y) (value x) ∙ e
-compared-symmetric value differ x y e = ap not (eqb-turn (value y) (value x)) ∙ e
-
--- and goes by the values
-compared-alike : (value : ℕ → ℕ) (t : Comparison) (x y z : ℕ) → compared value same x y ≡ true → compared value t y z ≡ true → compared value t x z ≡ true
-unfolding compared
-compared-alike value same x y z e f = rw (eqb-true (value x) (value y) e) f
-compared-alike value differ x y z e f = rw (eqb-true (value x) (value y) e) f
-
-module _ (s fs ls ts starts ends : List ℕ) (d : Read s fs ls ts starts ends) where
-  -- row x of a comparison, in the table
-  row-is : (t : Comparison) (x : ℕ) → x < 64 → rowAt ends (numberOf t) x ≡ getD (passing s t) x 0
-  row-is same x l = d .rows .first x l
-  row-is differ x l = d .rows .second x l
-
-  -- it has the cells that pass with cell x, and those of no others
-  row-iff : (t : Comparison) (x y : ℕ) → x < 64
-      → So (bit (rowAt ends (numberOf t) x) y) ↔ ((x < cellsOf s) × (y < cellsOf s) × So (graphOf s .ends t x y))
-  unfolding passingRows passingTo rowsTo
-  row-iff t x y l = rw (row-is t x l ∙ list-at 64 _ x 0 l) (by (ltb x (cellsOf s)) refl)
-    where
-      by : (b : Bool) → ltb x (cellsOf s) ≡ b
-          → So (bit (cond b (wordOf (cellsOf s) (graphOf s .ends t x)) 0) y) ↔ ((x < cellsOf s) × (y < cellsOf s) × So (graphOf s .ends t x y))
-      by true e = (
-        λ h. let (i, j) = simp (bit-wordOf, and-iff, ltb-iff) at h in (ltb-iff _ _ .0 e, i, j),
-        λ (_, i, j). simp (bit-wordOf, and-iff, ltb-iff) (i, j),
-      )
-      by false e = (λ h. never (sym (bit-zero y) ∙ h), λ (i, _, _). never (sym e ∙ ltb-iff _ _ .1 i))
-
-  -- comparisons go by the recordings
-  pub read-valued : Valued ends
-  read-valued = record {
-    alike = λ t x y z l lx ly e f.
-        let (k, n) = number t l in
-        let (a, _, e′) = row-iff same x y lx .0 e in
-        let (_, b, f′) = row-iff k y z ly .0 (rw n f) in
-        rw (← n) (row-iff k x z lx .1 (a, b, compared-alike _ k x y z e′ f′));
-    turned = λ t x y l lx ly e.
-        let (k, n) = number t l in
-        let (a, b, e′) = row-iff k x y lx .0 (rw n e) in
-        rw (← n) (row-iff k y x ly .1 (b, a, compared-symmetric _ k x y e′));
-  }
-    where
-      number : (t : ℕ) → t < 2 → (k : Comparison) × (numberOf k ≡ t)
-      number zero l = (same, refl)
-      number (suc zero) l = (differ, refl)
-      number (suc (suc t)) l = absurd (omega arith)
-
-  pub read-opened : Opened starts ts
-  read-opened = book-opened s fs ls ts starts (d .accepted) (d .loaded) (d .table)
-
-  pub read-drawn : Drawn (graphOf s) (viewOf starts ls ts) ends
-  read-drawn = record {
-    formed = book-graph s (d .accepted);
-    small = book-sizes s (d .accepted) .few;
-    hops = book-out s fs ls ts starts (d .accepted) (d .loaded) (d .table);
-    rows = λ t x y lx ly.
-        ap (λ (w : ℕ). bit w y) (row-is t x (cell-few s x (d .accepted) lx) ∙ passing-rows s t (d .accepted) .row x lx)
-        ∙ bit-wordOf-lt (cellsOf s) (graphOf s .ends t x) y ly;
-    symmetric = compared-symmetric _;
-  }
-
--- two books, a cell of each, and a relation that the rows hold
-module _ (s fs ls ts starts ends : List ℕ) (d : Read s fs ls ts starts ends) (s′ fs′ ls′ ts′ starts′ ends′ : List ℕ) (d′ : Read s′ fs′ ls′ ts′ starts′ ends′)
-    (a b : ℕ) (here : a < cellsOf s) (there : b < cellsOf s′) where
-  pub read-ready : Ready starts ts starts′ ts′ a b
-  read-ready = record {
-    left = read-opened s fs ls ts starts ends d;
-    right = read-opened s′ fs′ ls′ ts′ starts′ ends′ d′;
-    cell = cell-few s a (d .accepted) here;
-    partner = cell-few s′ b (d′ .accepted) there;
-  }
-
-  pub read-posed : (rows : List ℕ) (z : Relation) → ((x y : ℕ) → x < cellsOf s → y < cellsOf s′ → bit (getD rows x 0) y ≡ z x y)
-      → Posed (graphOf s) (graphOf s′) z (viewOf starts ls ts) (viewOf starts′ ls′ ts′) rows ends ends′ a b
-  read-posed rows z e = record {
-    left = read-drawn s fs ls ts starts ends d;
-    right = read-drawn s′ fs′ ls′ ts′ starts′ ends′ d′;
-    related = e;
-    here = here;
-    there = there;
-  }

@@ -1,4 +1,4 @@
--- What a caller of the search cites, in exit form: every number that the code has is a variable. Assumes nothing.
+-- What a caller of the search cites, in exit form: every number that the code has is a variable.
 use mathlib.Core.Bool.{true}
 use mathlib.Core.Path.{_≡_, refl, sym, ap, _∙_}
 use mathlib.Core.List.{List, [], _∷_}
@@ -13,13 +13,30 @@ use Rattle.theory.specs.Path.{Hop}
 use Rattle.theory.specs.Bisimulation.{Relation}
 use Rattle.theory.specs.Rounds.{zigs}
 use Rattle.theory.specs.Parting.{byLink, byPaths, Fails}
-use Rattle.theory.specs.Choosing.{none, some, chosen, chosen-fails, chosen-none}
-use Rattle.hops.specs.Hops.{View, hopAt}
-use Rattle.classes.specs.Paths.{pathOf}
-use Rattle.search.specs.declared.Steps.{Steps}
+use Rattle.theory.specs.Choosing.{none, some, chosen}
+use Rattle.theory.specs.ChoosingLaws.{chosen-fails, chosen-none}
+use Rattle.words.specs.Words.{bit}
+use Rattle.search_links.specs.Hops.{View, hopAt}
+use Rattle.search_steps.specs.Paths.{pathOf}
+use Rattle.search_pairs.specs.declared.Route.{Route}
 use Rattle.search.specs.declared.Reason.{Reason}
-use Rattle.search.specs.Bridge.{path-length}
-use Rattle.search.specs.Reasons.{Posed, pathIn, reasonOf, choiceOf, Numbered, Answered}
+use Rattle.search.specs.BridgeLaws.{path-length}
+use Rattle.search.specs.Lengths.{Ready}
+use Rattle.search.specs.Reasons.{Charted, Posed, pathIn, reasonOf, choiceOf, Numbered, Answered}
+
+-- ---- what the search asks, and what its answer is about
+module _ {l r : Graph} {v u : View} {ea eb : List ℕ} (left : Charted l v ea) (right : Charted r u eb) (a b : ℕ) (here : a < l .size) (there : b < r .size) where
+  pub charted-ready : Ready (v .starts) (v .to) (u .starts) (u .to) a b
+  charted-ready = record {
+    left = left .opened;
+    right = right .opened;
+    cell = omega (arith, left .drawn .small);
+    partner = omega (arith, right .drawn .small);
+  }
+
+  pub charted-posed : (rows : List ℕ) (z : Relation) → ((x y : ℕ) → x < l .size → y < r .size → bit (getD rows x 0) y ≡ z x y)
+      → Posed l r z v u rows ea eb a b
+  charted-posed rows z e = record { left = left .drawn; right = right .drawn; related = e; here = here; there = there }
 
 -- ---- the answer, of two graphs and a relation that the lists show
 module _ (l r : Graph) (z : Relation) (v u : View) (rows ea eb : List ℕ) (a b c : ℕ) (s : Reason) (w : Answered v u rows ea eb a b c s)
@@ -63,7 +80,7 @@ path-at v [] i h l = absurd (not-suc-le-zero l)
 path-at v (k ∷ p) zero h l = refl
 path-at v (k ∷ p) (suc i) h l = path-at v p i h (le-of-suc-le-suc l)
 
-module _ (v : View) (to : List ℕ) (c : ℕ) (w : Steps) (n : Numbered to c w) (small : c ≤ 4) where
+module _ (v : View) (to : List ℕ) (c : ℕ) (w : Route) (n : Numbered to c w) (small : c ≤ 4) where
   whole : length (take (w .len) (w .links)) ≡ w .len
   whole = length-take-le (w .len) (w .links) (omega (arith, n .short, n .links))
 

@@ -3,10 +3,10 @@ use mathlib.Core.Path.{_≡_}
 use mathlib.Core.Logic.{_⊎_}
 use mathlib.Core.List.{List}
 use Prim.Native.Nat.{ℕ, _+_, _^_, _≤_, _<_}
-use Rattle.hops.specs.Hops.{View, startOf, labelOf, toOf, Opened}
-use Rattle.classes.specs.Paths.{Leaves, stepWord}
-use Rattle.routes.specs.declared.Pair.{Pair}
-use Rattle.routes.specs.Pairs.{Clear, Shown}
+use Rattle.search_links.specs.Hops.{View, startOf, labelOf, toOf, Opened}
+use Rattle.search_steps.specs.Paths.{Leaves, stepWord}
+use Rattle.search_pairs.specs.declared.Pair.{Pair}
+use Rattle.search_pairs.specs.Pairs.{Clear, Shown}
 
 -- What the search asks: two books' lists, a cell of each.
 pub record Ready (sa ta sb tb : List ℕ) (x y : ℕ) : Type 0 where
@@ -31,7 +31,7 @@ abbrev pub Sooner : ℕ → ℕ → ℕ → ℕ → Type 0
 Sooner k l i j = (k + l < i + j) ⊎ ((k + l ≡ i + j) × (k < i))
 
 -- The first two paths of lengths in a range that fail, or that there are none.
-pub record Outcome (v u : View) (z ea eb : List ℕ) (x y : ℕ) (R : ℕ → ℕ → Type 0) (r : Pair) : Type 0 where
+pub record Finding (v u : View) (z ea eb : List ℕ) (x y : ℕ) (R : ℕ → ℕ → Type 0) (r : Pair) : Type 0 where
   pub found : (r .kind ≡ 0 → ⊥)
       → (i j : ℕ) × R i j × Shown v u z ea eb x y i j r × ((k l : ℕ) → R k l → Sooner k l i j → Clear v u z ea eb x y k l)
   pub none : r .kind ≡ 0 → (i j : ℕ) → R i j → Clear v u z ea eb x y i j

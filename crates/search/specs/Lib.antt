@@ -1,5 +1,6 @@
 pub mod Lengths
 pub mod Reasons
-pub mod Bridge
+pub mod BridgeLaws
 pub mod BookReasons
+pub mod BookReasonLaws
 pub mod Laws

@@ -11,11 +11,10 @@ use Rattle.theory.specs.Bisimulation.{Relation}
 use Rattle.theory.specs.Parting.{Reason as Cause, byLink, byPaths}
 use Rattle.theory.specs.Choosing.{Choice, none, some, Symmetric, chosen}
 use Rattle.words.specs.Words.{bit}
-use Rattle.hops.specs.Hops.{View, hopAt, hopsOf}
-use Rattle.hops.specs.Sets.{rowAt}
-use Rattle.classes.specs.Paths.{pathOf}
-use Rattle.routes.specs.declared.Route.{Route}
-use Rattle.search.specs.declared.Steps.{Steps}
+use Rattle.search_links.specs.Hops.{View, hopAt, hopsOf, Opened}
+use Rattle.search_links.specs.Sets.{rowAt, Valued}
+use Rattle.search_steps.specs.Paths.{pathOf}
+use Rattle.search_pairs.specs.declared.Route.{Route}
 use Rattle.search.specs.declared.Reason.{Reason}
 
 -- The number of a comparison in a table of rows.
@@ -31,6 +30,12 @@ pub record Drawn (g : Graph) (v : View) (ends : List ℕ) : Type 0 where
   pub rows : (t : Comparison) (x y : ℕ) → x < g .size → y < g .size → bit (rowAt ends (numberOf t) x) y ≡ g .ends t x y
   pub symmetric : Symmetric g
 
+-- The lists show the graph, and can be gone through: the links out of each cell lie side by side, and comparisons go by a value.
+pub record Charted (g : Graph) (v : View) (ends : List ℕ) : Type 0 where
+  pub drawn : Drawn g v ends
+  pub opened : Opened (v .starts) (v .to)
+  pub valued : Valued ends
+
 -- The lists and rows show two graphs and a relation, and (a, b) is a pair of their nodes.
 pub record Posed (l r : Graph) (z : Relation) (v u : View) (rows ea eb : List ℕ) (a b : ℕ) : Type 0 where
   pub left : Drawn l v ea
@@ -39,12 +44,8 @@ pub record Posed (l r : Graph) (z : Relation) (v u : View) (rows ea eb : List �
   pub here : a < l .size
   pub there : b < r .size
 
--- A route without its words.
-abbrev pub stepsOf : Route → Steps
-stepsOf w = record { len = w .len; links = w .links }
-
 -- The theory's path.
-abbrev pub pathIn : View → Steps → Path
+abbrev pub pathIn : View → Route → Path
 pathIn v w = pathOf v (take (w .len) (w .links))
 
 -- The theory's reason: by its kind, a link, or a comparison and two paths.
@@ -54,7 +55,7 @@ reasonOf v s =
     (byPaths (cond (eqb (s .kind) 5) same differ) (pathIn v (s .first)) (pathIn v (s .second)))
 
 -- At most c links, each one that there is.
-pub record Numbered (to : List ℕ) (c : ℕ) (w : Steps) : Type 0 where
+pub record Numbered (to : List ℕ) (c : ℕ) (w : Route) : Type 0 where
   pub short : w .len ≤ c
   pub links : length (w .links) ≡ 4
   pub below : (i : ℕ) → i < w .len → getD (w .links) i 0 < 512

@@ -1,34 +1,19 @@
 // Why cell x of one book and cell y of the other part, in one direction: a link, or two paths, without counterpart; fewest links first.
 // Callers exchange the books for the other direction.
-ghost use mathlib.Core.Path.{_≡_};
 ghost use Prim.Native.Nat.{_+_, _≤_};
-ghost use Rattle.hops.specs.Hops.{viewOf};
-ghost use Rattle.hops.specs.Sets.{Valued};
-ghost use Rattle.search.specs.Lengths.{Ready, Outcome, Total, Most, Single};
-ghost use Rattle.search.specs.Reasons.{stepsOf, Answered};
-use routes::Pair;
-use routes::Route;
-
-// A path by the numbers of its first `len` links.
-pub struct Steps {
-    pub len: u8,
-    pub links: [u16; 4],
-}
+ghost use Rattle.search_links.specs.Hops.{viewOf};
+ghost use Rattle.search_links.specs.Sets.{Valued};
+ghost use Rattle.search.specs.Lengths.{Ready, Finding, Total, Most, Single};
+ghost use Rattle.search.specs.Reasons.{Answered};
+use search_pairs::Pair;
+use search_pairs::Route;
 
 // A reason to part x and y, by the kind of the entry that asks it: 4 one link, which is `first`; 5 and 6 two paths whose recordings are
 // same or differ; 0 where there is no reason.
 pub struct Reason {
     pub kind: u8,
-    pub first: Steps,
-    pub second: Steps,
-}
-
-// The links of a route.
-fn steps_of(w: Route) -> Steps
-    ensures { λ r. ⌜ r ≡ stepsOf w ⌝ }
-{
-    let links = w.links;
-    Steps { len: w.len, links }
+    pub first: Route,
+    pub second: Route,
 }
 
 // The first two paths of s links in all, the first no longer than the second, neither longer than c: those with the shortest first path.
@@ -48,20 +33,20 @@ fn by_lengths(
     s: u8,
 ) -> Pair
     requires { ⌜ Ready (now sa) (now ta) (now sb) (now tb) x y × (c ≤ 4) × (s ≤ c + c) ⌝ }
-    ensures { λ r. ⌜ Outcome (viewOf (now (sa .entry)) (now (la .entry)) (now (ta .entry))) (viewOf (now (sb .entry)) (now (lb .entry)) (now (tb .entry))) (now (z .entry)) (now (ea .entry)) (now (eb .entry)) x y (Total c s) r ⌝ }
+    ensures { λ r. ⌜ Finding (viewOf (now (sa .entry)) (now (la .entry)) (now (ta .entry))) (viewOf (now (sb .entry)) (now (lb .entry)) (now (tb .entry))) (now (z .entry)) (now (ea .entry)) (now (eb .entry)) x y (Total c s) r ⌝ }
 {
     let mut i = 0u8;
     if c < s {
         i = s - c;
     }
     while i <= s / 2 {
-        let r = routes::two_paths(sa, la, ta, ea, sb, lb, tb, eb, z, x, y, i, s - i);
+        let r = search_pairs::two_paths(sa, la, ta, ea, sb, lb, tb, eb, z, x, y, i, s - i);
         if r.kind != 0 {
             return r;
         }
         i += 1;
     }
-    routes::no_pair()
+    search_pairs::no_pair()
 }
 
 // The first two paths of at most c links each, fewest in all first. Those of less than 3 links in all are soon looked through; before the others, one
@@ -81,13 +66,13 @@ fn by_total(
     c: u8,
 ) -> Pair
     requires { ⌜ Ready (now sa) (now ta) (now sb) (now tb) x y × (c ≤ 4) × Valued (now eb) ⌝ }
-    ensures { λ r. ⌜ Outcome (viewOf (now (sa .entry)) (now (la .entry)) (now (ta .entry))) (viewOf (now (sb .entry)) (now (lb .entry)) (now (tb .entry))) (now (z .entry)) (now (ea .entry)) (now (eb .entry)) x y (Most c) r ⌝ }
+    ensures { λ r. ⌜ Finding (viewOf (now (sa .entry)) (now (la .entry)) (now (ta .entry))) (viewOf (now (sb .entry)) (now (lb .entry)) (now (tb .entry))) (now (z .entry)) (now (ea .entry)) (now (eb .entry)) x y (Most c) r ⌝ }
 {
     let mut s = 0u8;
     while s <= c + c {
         if s == 3 {
-            if covering::none_fails(sa, la, ta, ea, sb, lb, tb, eb, z, x, y, c) {
-                return routes::no_pair();
+            if search_cover::none_fails(sa, la, ta, ea, sb, lb, tb, eb, z, x, y, c) {
+                return search_pairs::no_pair();
             }
         }
         let r = by_lengths(sa, la, ta, ea, sb, lb, tb, eb, z, x, y, c, s);
@@ -96,7 +81,7 @@ fn by_total(
         }
         s += 1;
     }
-    routes::no_pair()
+    search_pairs::no_pair()
 }
 
 // The first link out of x that has no counterpart from y, or where the links out of x end.
@@ -118,7 +103,9 @@ fn one_link(
     let until = sa[x as usize + 1];
     let mut k = sa[x as usize];
     while k < until {
-        if classes::step(sb, lb, tb, z, partner, la[k as usize], ta[k as usize]) == 0 {
+        let label = search_links::label(la, k);
+        let target = search_links::target(ta, k);
+        if search_steps::step(sb, lb, tb, z, partner, label, target) == 0 {
             return k;
         }
         k += 1;
@@ -148,12 +135,12 @@ pub fn reason_for(
     let link = one_link(sa, la, ta, sb, lb, tb, z, x, y);
     if link < sa[x as usize + 1] {
         return Reason {
-            kind: 4,
-            first: Steps {
+            kind: sheet::KIND_WAY,
+            first: Route {
                 len: 1,
                 links: [link, 0, 0, 0],
             },
-            second: Steps {
+            second: Route {
                 len: 0,
                 links: [0u16; 4],
             },
@@ -164,7 +151,7 @@ pub fn reason_for(
     let second = r.second;
     Reason {
         kind: r.kind,
-        first: steps_of(first),
-        second: steps_of(second),
+        first,
+        second,
     }
 }

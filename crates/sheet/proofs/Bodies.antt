@@ -1,4 +1,4 @@
--- The stages of the check in the form in which the code goes through them: numbers one after another, and a body by its kind. Assumes nothing.
+-- The stages of the check in the form in which the code goes through them: numbers one after another, and a body by its kind.
 use mathlib.Core.Bool.{Bool, true, false, cond, not, _||_}
 use mathlib.Core.List.{List, [], _∷_, _++_}
 use mathlib.Core.Logic.{_⊎_, inl, inr, ⊎-elim}
@@ -9,7 +9,7 @@ use native.Mathlib.Omega.{arith}
 use borrow.Author.Tests.{lt-ltb, le-ltb}
 use lib.Dec.{eqb, ltb}
 use lib.ListN.{getD}
-use Rattle.sheet.specs.Entry.{Step, entryWith, tests, numbers, mostSteps}
+use Rattle.sheet.specs.Entry.{onlyVersion, Step, entryWith, tests, numbers, mostSteps}
 use Rattle.outcome.specs.Refusals.{firstOf}
 use Rattle.sheet.specs.Sheet.{stepWidth, numberAt, stepAt, stepsAt, stepCounts, entryOf, tooLarge, required, numbersRefusal, bodyRefusal}
 
@@ -31,12 +31,12 @@ tests-append [] ts = refl
 tests-append (s ∷ ss) ts = ap (λ is. s .test ∷ is) (tests-append ss ts)
 
 -- steps that follow one another
-pub steps-add : (s : List ℕ) (at k j : ℕ) → stepsAt s at (k + j) ≡ stepsAt s at k ++ stepsAt s (at + stepWidth * k) j
+pub steps-add : (s : List ℕ) (at k j : ℕ) → stepsAt s at (k + j) ≡ stepsAt s at k ++ stepsAt s (at + stepWidth onlyVersion * k) j
 unfolding stepsAt
-steps-add s at zero j = rw (let e : zero + j ≡ j = omega arith in e, let e : at + stepWidth * 0 ≡ at = omega arith in e)
+steps-add s at zero j = rw (let e : zero + j ≡ j = omega arith in e, let e : at + stepWidth onlyVersion * 0 ≡ at = omega arith in e)
 steps-add s at (suc k) j =
     rw (let e : suc k + j ≡ suc (k + j) = omega arith in e)
-    (ap (λ ss. stepAt s at ∷ ss) (steps-add s (at + stepWidth) k j ∙ rw (let e : at + stepWidth + stepWidth * k ≡ at + stepWidth * suc k = omega arith in e)))
+    (ap (λ ss. stepAt s at ∷ ss) (steps-add s (at + stepWidth onlyVersion) k j ∙ rw (let e : at + stepWidth onlyVersion + stepWidth onlyVersion * k ≡ at + stepWidth onlyVersion * suc k = omega arith in e)))
 
 -- ---- the check of a body, by its kind
 
@@ -60,19 +60,19 @@ module _ (s : List ℕ) (c n kind at size : ℕ) where
 
   pub body-way : kind ≡ 4
       → bodyRefusal s c n kind at size
-      ≡ cond (ltb size 1) 14 (cond (ltb mostSteps (getD s at 0)) 11 (cond (not (eqb size (1 + stepWidth * getD s at 0))) 14
+      ≡ cond (ltb size 1) 14 (cond (ltb (mostSteps onlyVersion) (getD s at 0)) 11 (cond (not (eqb size (1 + stepWidth onlyVersion * getD s at 0))) 14
       (numbersRefusal n (tests (stepsAt s (at + 1) (getD s at 0))))))
   unfolding bodyRefusal stepCounts tooLarge required entryOf entryWith numbers
   body-way k = rw k refl
 
   -- the steps of both ways are read as one run
-  both : tests (stepsAt s (at + 2) (getD s at 0)) ++ tests (stepsAt s (at + 2 + stepWidth * getD s at 0) (getD s (at + 1) 0))
+  both : tests (stepsAt s (at + 2) (getD s at 0)) ++ tests (stepsAt s (at + 2 + stepWidth onlyVersion * getD s at 0) (getD s (at + 1) 0))
       ≡ tests (stepsAt s (at + 2) (getD s at 0 + getD s (at + 1) 0))
   both = sym (ap tests (steps-add s (at + 2) (getD s at 0) (getD s (at + 1) 0)) ∙ tests-append _ _)
 
   pub body-comparison : 4 < kind → kind ≤ 6
       → bodyRefusal s c n kind at size
-      ≡ cond (ltb size 2) 14 (cond (ltb c (getD s at 0) || ltb c (getD s (at + 1) 0)) 11 (cond (not (eqb size (2 + stepWidth * (getD s at 0 + getD s (at + 1) 0)))) 14
+      ≡ cond (ltb size 2) 14 (cond (ltb c (getD s at 0) || ltb c (getD s (at + 1) 0)) 11 (cond (not (eqb size (2 + stepWidth onlyVersion * (getD s at 0 + getD s (at + 1) 0)))) 14
       (numbersRefusal n (tests (stepsAt s (at + 2) (getD s at 0 + getD s (at + 1) 0))))))
   unfolding bodyRefusal stepCounts tooLarge required entryOf entryWith numbers
   body-comparison h l = ⊎-elim (λ k. rw k (rw (← both) refl)) (λ k. rw k (rw (← both) refl)) (one-of-two 5 kind h l)

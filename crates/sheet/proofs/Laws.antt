@@ -1,5 +1,5 @@
 -- What each way out of the check shows of the definitions of `specs/`. The numbers that the code computed are variables here, with what is
--- known of them, so that `search` finds them in a need's record. Assumes nothing.
+-- known of them, so that `search` finds them in a need's record.
 use mathlib.Core.Bool.{cond}
 use mathlib.Core.List.{List, [], _∷_}
 use mathlib.Core.Path.{_≡_, refl, sym, ap, ap₂, _∙_}
@@ -8,13 +8,14 @@ use native.Mathlib.Omega.{arith}
 use borrow.Author.Tests.{lt-ltb, le-ltb, le-leb, lt-leb, eq-eqb, ne-eqb}
 use lib.Dec.{ltb}
 use lib.ListN.{length, getD}
-use Rattle.sheet.specs.Entry.{kindOf, firstWay, secondWay, stepIn, tests, numbers, mostSteps}
+use Rattle.sheet.specs.Entry.{onlyVersion, kindOf, firstWay, secondWay, stepIn, tests, numbers, mostSteps}
 use Rattle.outcome.specs.Refusals.{firstOf}
 use Rattle.sheet.specs.Sheet.{lengthOf, boundOf, countOf, numberAt, stepsAt, entryAt, nextAt, entryStart, headRefusal, stepCounts, numbersRefusal, bodyRefusal, kindRefusal, entryRefusal, entriesRefusal, sheetRefusal, sheetAnswer, sheetOutcome, labelWidth, stepWidth, versionOf, headSize, mostBound, mostEntries, mostKind}
 use Rattle.fields.specs.Fields.{field}
-use Rattle.sheet.specs.Accepted.{entryStart-next}
-use Rattle.sheet.specs.Reading.{Readable, HasNumber, HasWay, HasStep, Reads, stepsOf, firstPlace, secondPlace, readable, kind-read, number-read, first-reads, second-two, second-reads, steps-in}
-use Rattle.sheet.specs.Passed.{kind-passed, standing, headed, accepted-head}
+use Rattle.sheet.specs.AcceptedLaws.{entryStart-next}
+use Rattle.sheet.specs.Reading.{Readable, HasNumber, HasWay, HasStep, Reads, stepsOf, firstPlace, secondPlace}
+use Rattle.sheet.specs.ReadingLaws.{readable, kind-read, number-read, first-reads, second-two, second-reads, steps-in}
+use Rattle.sheet.specs.PassedLaws.{kind-passed, standing, headed, accepted-head}
 use Rattle.sheet.proofs.Bodies.{numbers-append, body-true, body-not, body-two, body-way, body-comparison, body-plain}
 use Rattle.outcome.specs.Outcome.{outcome, code}
 use Rattle.sheet.specs.declared.Steps.{Steps}
@@ -62,22 +63,22 @@ module _ (s : List ℕ) (l : ℕ) (d : l ≡ lengthOf s) (a : headSize ≤ lengt
 
 -- ---- the kind
 module _ (n kind : ℕ) where
-  pub kind-above : mostKind < kind → 10 ≡ kindRefusal n kind
+  pub kind-above : mostKind onlyVersion < kind → 10 ≡ kindRefusal n kind
   unfolding kindRefusal
-  kind-above h = simp (lt-ltb mostKind kind h)
+  kind-above h = simp (lt-ltb (mostKind onlyVersion) kind h)
 
-  module _ (h : kind ≤ mostKind) where
+  module _ (h : kind ≤ mostKind onlyVersion) where
     pub kind-later : (n ≡ 0 → ⊥) → 0 ≡ kindRefusal n kind
     unfolding kindRefusal
-    kind-later f = simp (le-ltb mostKind kind h, ne-eqb n 0 f)
+    kind-later f = simp (le-ltb (mostKind onlyVersion) kind h, ne-eqb n 0 f)
 
     pub kind-first : n ≡ 0 → (kind ≡ 0 → ⊥) → 13 ≡ kindRefusal n kind
     unfolding kindRefusal
-    kind-first z f = simp (le-ltb mostKind kind h, eq-eqb n 0 z, ne-eqb kind 0 f)
+    kind-first z f = simp (le-ltb (mostKind onlyVersion) kind h, eq-eqb n 0 z, ne-eqb kind 0 f)
 
     pub kind-true : n ≡ 0 → kind ≡ 0 → 0 ≡ kindRefusal n kind
     unfolding kindRefusal
-    kind-true z f = simp (le-ltb mostKind kind h, eq-eqb n 0 z, eq-eqb kind 0 f)
+    kind-true z f = simp (le-ltb (mostKind onlyVersion) kind h, eq-eqb n 0 z, eq-eqb kind 0 f)
 
 -- ---- numbers
 module _ (s : List ℕ) (n at i : ℕ) (d : i ≡ numberAt s at) where
@@ -98,7 +99,7 @@ tests-end s n base count at zero i h = sym i
 tests-end s n base count at (suc left) i h = absurd (omega arith)
 
 module _ (s : List ℕ) (n base count at left : ℕ) (i : numbersRefusal n (tests (stepsAt s base count)) ≡ numbersRefusal n (tests (stepsAt s at left)))
-    (p : 0 < left) (t : ℕ) (d : t ≡ numberAt s (at + labelWidth)) where
+    (p : 0 < left) (t : ℕ) (d : t ≡ numberAt s (at + labelWidth onlyVersion)) where
   pub tests-stop : n ≤ t → 12 ≡ numbersRefusal n (tests (stepsAt s base count))
   unfolding numbersRefusal tests stepsAt
   tests-stop h = sym (i ∙ go left p)
@@ -107,11 +108,11 @@ module _ (s : List ℕ) (n base count at left : ℕ) (i : numbersRefusal n (test
       go zero q = absurd (omega arith)
       go (suc m) q = simp (← d, le-ltb t n h)
 
-  pub tests-next : t < n → numbersRefusal n (tests (stepsAt s base count)) ≡ numbersRefusal n (tests (stepsAt s (at + stepWidth) (left - 1)))
+  pub tests-next : t < n → numbersRefusal n (tests (stepsAt s base count)) ≡ numbersRefusal n (tests (stepsAt s (at + stepWidth onlyVersion) (left - 1)))
   unfolding numbersRefusal tests stepsAt
   tests-next h = i ∙ go left p
     where
-      go : (m : ℕ) → 0 < m → numbersRefusal n (tests (stepsAt s at m)) ≡ numbersRefusal n (tests (stepsAt s (at + stepWidth) (m - 1)))
+      go : (m : ℕ) → 0 < m → numbersRefusal n (tests (stepsAt s at m)) ≡ numbersRefusal n (tests (stepsAt s (at + stepWidth onlyVersion) (m - 1)))
       go zero q = absurd (omega arith)
       go (suc m) q = let e : suc m - 1 ≡ m = omega arith in simp (← d, lt-ltb t n h, e)
 
@@ -151,15 +152,15 @@ module _ (s : List ℕ) (n at size : ℕ) where
   way-short h = simp (body-way s 0 n 4 at size refl, lt-ltb size 1 h)
 
   module _ (h : 1 ≤ size) (k : ℕ) (d : k ≡ getD s at 0) where
-    pub way-large : mostSteps < k → 11 ≡ bodyRefusal s 0 n 4 at size
-    way-large l = simp (body-way s 0 n 4 at size refl, le-ltb size 1 h, ← d, lt-ltb mostSteps k l)
+    pub way-large : mostSteps onlyVersion < k → 11 ≡ bodyRefusal s 0 n 4 at size
+    way-large l = simp (body-way s 0 n 4 at size refl, le-ltb size 1 h, ← d, lt-ltb (mostSteps onlyVersion) k l)
 
-    module _ (l : k ≤ mostSteps) where
-      pub way-size : (size ≡ 1 + stepWidth * k → ⊥) → 14 ≡ bodyRefusal s 0 n 4 at size
-      way-size f = simp (body-way s 0 n 4 at size refl, le-ltb size 1 h, ← d, le-ltb mostSteps k l, ne-eqb size (1 + stepWidth * k) f)
+    module _ (l : k ≤ mostSteps onlyVersion) where
+      pub way-size : (size ≡ 1 + stepWidth onlyVersion * k → ⊥) → 14 ≡ bodyRefusal s 0 n 4 at size
+      way-size f = simp (body-way s 0 n 4 at size refl, le-ltb size 1 h, ← d, le-ltb (mostSteps onlyVersion) k l, ne-eqb size (1 + stepWidth onlyVersion * k) f)
 
-      pub way-tests : size ≡ 1 + stepWidth * k → (r : ℕ) → r ≡ numbersRefusal n (tests (stepsAt s (at + 1) k)) → r ≡ bodyRefusal s 0 n 4 at size
-      way-tests e r dr = simp (body-way s 0 n 4 at size refl, le-ltb size 1 h, ← d, le-ltb mostSteps k l, eq-eqb size (1 + stepWidth * k) e) dr
+      pub way-tests : size ≡ 1 + stepWidth onlyVersion * k → (r : ℕ) → r ≡ numbersRefusal n (tests (stepsAt s (at + 1) k)) → r ≡ bodyRefusal s 0 n 4 at size
+      way-tests e r dr = simp (body-way s 0 n 4 at size refl, le-ltb size 1 h, ← d, le-ltb (mostSteps onlyVersion) k l, eq-eqb size (1 + stepWidth onlyVersion * k) e) dr
 
 -- ---- the body of a same or a differ
 module _ (s : List ℕ) (c n at size : ℕ) where
@@ -176,13 +177,13 @@ module _ (s : List ℕ) (c n at size : ℕ) where
           simp (body-comparison s c n 5 at size (omega arith) (omega arith), le-ltb size 2 h, le-ltb c (getD s at 0) l, lt-ltb c (getD s (at + 1) 0) m)
 
       module _ (m : getD s (at + 1) 0 ≤ c) (k j : ℕ) (dk : k ≡ getD s at 0) (dj : j ≡ getD s (at + 1) 0) where
-        pub comparison-size : (size ≡ 2 + stepWidth * (k + j) → ⊥) → 14 ≡ bodyRefusal s c n 5 at size
+        pub comparison-size : (size ≡ 2 + stepWidth onlyVersion * (k + j) → ⊥) → 14 ≡ bodyRefusal s c n 5 at size
         comparison-size f =
-            simp (body-comparison s c n 5 at size (omega arith) (omega arith), le-ltb size 2 h, ← dk, ← dj, le-ltb c k (omega arith), le-ltb c j (omega arith), ne-eqb size (2 + stepWidth * (k + j)) f)
+            simp (body-comparison s c n 5 at size (omega arith) (omega arith), le-ltb size 2 h, ← dk, ← dj, le-ltb c k (omega arith), le-ltb c j (omega arith), ne-eqb size (2 + stepWidth onlyVersion * (k + j)) f)
 
-        pub comparison-tests : size ≡ 2 + stepWidth * (k + j) → (r : ℕ) → r ≡ numbersRefusal n (tests (stepsAt s (at + 2) (k + j))) → r ≡ bodyRefusal s c n 5 at size
+        pub comparison-tests : size ≡ 2 + stepWidth onlyVersion * (k + j) → (r : ℕ) → r ≡ numbersRefusal n (tests (stepsAt s (at + 2) (k + j))) → r ≡ bodyRefusal s c n 5 at size
         comparison-tests e r dr =
-            simp (body-comparison s c n 5 at size (omega arith) (omega arith), le-ltb size 2 h, ← dk, ← dj, le-ltb c k (omega arith), le-ltb c j (omega arith), eq-eqb size (2 + stepWidth * (k + j)) e) dr
+            simp (body-comparison s c n 5 at size (omega arith) (omega arith), le-ltb size 2 h, ← dk, ← dj, le-ltb c k (omega arith), le-ltb c j (omega arith), eq-eqb size (2 + stepWidth onlyVersion * (k + j)) e) dr
 
 -- ---- the body, by its kind
 module _ (s : List ℕ) (c n kind at size r : ℕ) where
@@ -192,7 +193,7 @@ module _ (s : List ℕ) (c n kind at size r : ℕ) where
   pub body-by-way : kind ≡ 4 → r ≡ bodyRefusal s 0 n 4 at size → r ≡ bodyRefusal s c n kind at size
   body-by-way h d = d ∙ (rw h (body-way s 0 n 4 at size refl ∙ sym (body-way s c n 4 at size refl)))
 
-  pub body-by-comparison : 4 ≤ kind → (kind ≡ 4 → ⊥) → kind ≤ mostKind → r ≡ bodyRefusal s c n 5 at size → r ≡ bodyRefusal s c n kind at size
+  pub body-by-comparison : 4 ≤ kind → (kind ≡ 4 → ⊥) → kind ≤ mostKind onlyVersion → r ≡ bodyRefusal s c n 5 at size → r ≡ bodyRefusal s c n kind at size
   body-by-comparison h f l d =
       d ∙ body-comparison s c n 5 at size (omega arith) (omega arith) ∙ sym (body-comparison s c n kind at size (omega arith) l)
 
@@ -259,11 +260,8 @@ module _ (s : List ℕ) (c q at n : ℕ) (i : entriesRefusal s c 0 headSize q �
       entries-inside = let h = standing s c n at (sym dr ∙ z) .inside in omega arith
 
 -- ---- what the callers ask of a stage that is passed, in the form in which they ask it
-pub kind-most : (n kind r : ℕ) → r ≡ kindRefusal n kind → r ≡ 0 → kind ≤ mostKind
+pub kind-most : (n kind r : ℕ) → r ≡ kindRefusal n kind → r ≡ 0 → kind ≤ mostKind onlyVersion
 kind-most n kind r d z = kind-passed n kind (sym d ∙ z) .0
-
-pub entry-inside : (s : List ℕ) (c n at r : ℕ) → r ≡ entryRefusal s c n at → r ≡ 0 → at + getD s at 0 < length s
-entry-inside s c n at r d z = standing s c n at (sym d ∙ z) .inside
 
 pub head-long : (s : List ℕ) (h k : ℕ) → h ≡ headRefusal s → h ≡ 0 → k ≤ headSize → k ≤ length s
 head-long s h k d z l = let w = headed s (sym d ∙ z) .eight in omega arith
@@ -317,18 +315,18 @@ module _ (s : List ℕ) (at : ℕ) (h : HasWay s at 4) (count : ℕ) (d : count 
       (rw (d, t) (ap (λ a. record { start = a; count = getD s (at + 2) 0 }) (let e : at + 4 ≡ at + 2 + 2 = omega arith in e)))
 
 pub second-of-comparison : (s : List ℕ) (at : ℕ) → HasWay s at 5 → (first count : ℕ) → first ≡ getD s (at + 2) 0 → count ≡ getD s (at + 3) 0
-    → Reads s (secondPlace s at) (secondWay (entryAt s at)) (record { start = at + 4 + stepWidth * first; count = count })
+    → Reads s (secondPlace s at) (secondWay (entryAt s at)) (record { start = at + 4 + stepWidth onlyVersion * first; count = count })
 second-of-comparison s at h first count d e =
-    second-reads h (record { start = at + 4 + stepWidth * first; count = count })
+    second-reads h (record { start = at + 4 + stepWidth onlyVersion * first; count = count })
     (rw (d, e, second-two h)
     (ap₂ (λ a b. record { start = a; count = getD s b 0 })
-    (let p : at + 4 + stepWidth * getD s (at + 2) 0 ≡ at + 2 + 2 + stepWidth * getD s (at + 2) 0 = omega arith in p) (let p : at + 3 ≡ at + 2 + 1 = omega arith in p)))
+    (let p : at + 4 + stepWidth onlyVersion * getD s (at + 2) 0 ≡ at + 2 + 2 + stepWidth onlyVersion * getD s (at + 2) 0 = omega arith in p) (let p : at + 3 ≡ at + 2 + 1 = omega arith in p)))
 
 module _ (s : List ℕ) (w : Steps) (i : ℕ) (h : HasStep s w i) (r : ℕ) where
-  pub label-returned : r ≡ field labelWidth s (w .start + stepWidth * i) → r ≡ stepIn (stepsOf s w) i .label
+  pub label-returned : r ≡ field (labelWidth onlyVersion) s (w .start + stepWidth onlyVersion * i) → r ≡ stepIn (stepsOf s w) i .label
   label-returned d = d ∙ ap (λ t. t .label) (sym (steps-in s (w .start) (w .count) i (h .present)))
 
-  pub test-returned : r ≡ numberAt s (w .start + stepWidth * i + labelWidth) → r ≡ stepIn (stepsOf s w) i .test
+  pub test-returned : r ≡ numberAt s (w .start + stepWidth onlyVersion * i + labelWidth onlyVersion) → r ≡ stepIn (stepsOf s w) i .test
   test-returned d = d ∙ ap (λ t. t .test) (sym (steps-in s (w .start) (w .count) i (h .present)))
 
 -- ---- the start of an entry, one turn at a time

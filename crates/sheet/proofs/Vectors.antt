@@ -1,4 +1,4 @@
--- Worked sheets, computed by antt: the smallest that is accepted, each refusal once, and 14 before 12. Assumes nothing.
+-- Worked sheets, computed by antt: the smallest that is accepted, each refusal once, and 14 before 12.
 use mathlib.Core.List.{List, [], _∷_, map}
 use mathlib.Core.Path.{_≡_, refl}
 use Prim.Native.Nat.{ℕ, _+_}

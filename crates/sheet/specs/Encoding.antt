@@ -3,13 +3,13 @@ use mathlib.Core.List.{List, [], _∷_, _++_}
 use Prim.Native.Nat.{ℕ, suc, _+_, _^_}
 use lib.ListN.{length}
 use Rattle.fields.specs.Fields.{bytesOf}
-use Rattle.sheet.specs.Entry.{Step, Entry, truth, negation, conjunction, disjunction, way, comparison, kindOf, Below}
+use Rattle.sheet.specs.Entry.{onlyVersion, Step, Entry, truth, negation, conjunction, disjunction, way, comparison, kindOf, Below}
 use Rattle.sheet.specs.Sheet.{headSize, labelWidth, numberWidth}
 
 -- A label and a number for each step.
 unfoldable pub encodeSteps : List Step → List ℕ
 encodeSteps [] = []
-encodeSteps (s ∷ ss) = bytesOf labelWidth (s .label) ++ (bytesOf numberWidth (s .test) ++ encodeSteps ss)
+encodeSteps (s ∷ ss) = bytesOf (labelWidth onlyVersion) (s .label) ++ (bytesOf numberWidth (s .test) ++ encodeSteps ss)
 
 -- What follows the kind byte: numbers; or the step counts, then the steps.
 unfoldable pub bodyOf : Entry → List ℕ
@@ -54,4 +54,4 @@ labels (comparison t s s′) = stepLabels s ++ stepLabels s′
 -- Each label has room in its bytes.
 unfoldable pub Labelled : List Entry → Type 0
 Labelled [] = Unit {0}
-Labelled (e ∷ es) = Below (256 ^ labelWidth) (labels e) × Labelled es
+Labelled (e ∷ es) = Below (256 ^ labelWidth onlyVersion) (labels e) × Labelled es

@@ -114,9 +114,13 @@ numbers (disjunction i j) = i ∷ j ∷ []
 numbers (way s) = tests s
 numbers (comparison t s s′) = tests s ++ tests s′
 
--- The most steps of kind 4.
-abbrev pub mostSteps : ℕ
-mostSteps = 60
+-- The version that there is ("byte 4: version 1").
+abbrev pub onlyVersion : ℕ
+onlyVersion = 1
+
+-- The most steps of kind 4 in a sheet of version v.
+abbrev pub mostSteps : ℕ → ℕ
+mostSteps v = 60
 
 -- "k is at most 60 in kind 4, at most c in kinds 5 and 6."
 unfoldable pub Short : ℕ → Entry → Type 0
@@ -124,7 +128,7 @@ Short c truth = Unit {0}
 Short c (negation i) = Unit {0}
 Short c (conjunction i j) = Unit {0}
 Short c (disjunction i j) = Unit {0}
-Short c (way s) = length s ≤ mostSteps
+Short c (way s) = length s ≤ mostSteps onlyVersion
 Short c (comparison t s s′) = (length s ≤ c) × (length s′ ≤ c)
 
 -- Every number is below n.

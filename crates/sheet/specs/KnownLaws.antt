@@ -1,4 +1,4 @@
--- Laws of a pass over a sheet: which numbers are known, what can be read, and how it goes on. Assumes nothing.
+-- Laws of a pass over a sheet: which numbers are known, what can be read, and how it goes on.
 use mathlib.Core.List.{List, [], _∷_}
 use mathlib.Core.Path.{_≡_, sym, ap, _∙_}
 use Prim.Native.Nat.{ℕ, zero, suc, _+_, _-_, _≤_, _<_}
@@ -7,11 +7,12 @@ use native.Mathlib.Omega.{arith}
 use lib.ListN.{length, getD, drop, drop-of-length-le}
 use lib.Seq.{drop-cons}
 use Rattle.sheet.specs.Entry.{Step, Entry, truth, negation, conjunction, disjunction, way, comparison, kindOf, firstWay, secondWay, stepIn, tests, numbers, Below}
-use Rattle.sheet.specs.Expressions.{below-append}
+use Rattle.sheet.specs.ExpressionLaws.{below-append}
 use Rattle.sheet.specs.Sheet.{countOf, entryAt, entryStart, nextAt, mostEntries, sheetRefusal}
-use Rattle.sheet.specs.Passed.{accepted-head}
-use Rattle.sheet.specs.Accepted.{length-steps, well-formed-entry, entryStart-next, accepted-standing}
-use Rattle.sheet.specs.Reading.{Readable, HasNumber, HasStep, Reads, stepsOf, readable, has-number, test-below}
+use Rattle.sheet.specs.PassedLaws.{accepted-head}
+use Rattle.sheet.specs.AcceptedLaws.{length-steps, well-formed-entry, entryStart-next, accepted-standing}
+use Rattle.sheet.specs.Reading.{Readable, HasNumber, HasStep, Reads, stepsOf}
+use Rattle.sheet.specs.ReadingLaws.{readable, has-number, test-below}
 use Rattle.sheet.specs.Known.{WayKnown, EntryKnown, EntriesFit}
 use Rattle.sheet.specs.declared.Steps.{Steps}
 

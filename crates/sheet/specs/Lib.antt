@@ -1,10 +1,12 @@
 pub mod Entry
-pub mod Expressions
+pub mod ExpressionLaws
 pub mod Sheet
 pub mod Encoding
-pub mod Passed
-pub mod Accepted
+pub mod PassedLaws
+pub mod AcceptedLaws
+pub mod OutcomeLaws
 pub mod Reading
+pub mod ReadingLaws
 pub mod Known
 pub mod KnownLaws
-pub mod Written
+pub mod WrittenLaws

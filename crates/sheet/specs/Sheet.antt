@@ -8,7 +8,7 @@ use Rattle.fields.specs.Fields.{field}
 use Rattle.outcome.specs.Outcome.{Outcome, accepted, refused, ofSheet}
 use Rattle.outcome.specs.Refusals.{firstOf}
 use Rattle.theory.specs.Expression.{NodeExpr}
-use Rattle.sheet.specs.Entry.{Step, Entry, entryWith, expression, numbers, mostSteps}
+use Rattle.sheet.specs.Entry.{onlyVersion, Step, Entry, entryWith, expression, numbers, mostSteps}
 use Rattle.sheet.specs.declared.SheetAnswer.{SheetAnswer}
 use Rattle.sheet.specs.declared.SheetAnswer.the-variants.{Accepted, Refused}
 
@@ -44,21 +44,21 @@ mostEntries = 16385
 
 -- ---- an entry
 
--- The largest kind.
-abbrev pub mostKind : ℕ
-mostKind = 6
+-- The largest kind in a sheet of version v.
+abbrev pub mostKind : ℕ → ℕ
+mostKind v = 6
 
--- The bytes of a label: "a step is a label byte and the number of a test".
-abbrev pub labelWidth : ℕ
-labelWidth = 1
+-- The bytes of a label in a sheet of version v: "a step is a label byte and the number of a test".
+abbrev pub labelWidth : ℕ → ℕ
+labelWidth v = 1
 
 -- "A number is 2 bytes."
 abbrev pub numberWidth : ℕ
 numberWidth = 2
 
--- The bytes of a step.
-abbrev pub stepWidth : ℕ
-stepWidth = labelWidth + numberWidth
+-- The bytes of a step there.
+abbrev pub stepWidth : ℕ → ℕ
+stepWidth v = labelWidth v + numberWidth
 
 -- The number at byte `at`.
 abbrev pub numberAt : List ℕ → ℕ → ℕ
@@ -66,12 +66,12 @@ numberAt s at = field numberWidth s at
 
 -- The step at byte `at`.
 abbrev pub stepAt : List ℕ → ℕ → Step
-stepAt s at = record { label = field labelWidth s at; test = numberAt s (at + labelWidth) }
+stepAt s at = record { label = field (labelWidth onlyVersion) s at; test = numberAt s (at + labelWidth onlyVersion) }
 
 -- The k steps from byte `at` on.
 unfoldable pub stepsAt : List ℕ → ℕ → ℕ → List Step
 stepsAt s at zero = []
-stepsAt s at (suc k) = stepAt s at ∷ stepsAt s (at + stepWidth) k
+stepsAt s at (suc k) = stepAt s at ∷ stepsAt s (at + stepWidth onlyVersion) k
 
 -- How many step counts a kind has: "4 way, a step count k and k steps; 5 same and 6 differ, two step counts, the first way's steps,
 -- the second's".
@@ -88,7 +88,7 @@ firstCount s at = getD s at 0
 
 -- Where the steps of the second way start.
 abbrev pub secondStart : ℕ → List ℕ → ℕ → ℕ
-secondStart kind s at = firstStart kind at + stepWidth * firstCount s at
+secondStart kind s at = firstStart kind at + stepWidth onlyVersion * firstCount s at
 
 -- How many they are.
 abbrev pub secondCount : List ℕ → ℕ → ℕ
@@ -138,7 +138,7 @@ unfoldable pub headRefusal : List ℕ → ℕ
 headRefusal s =
     cond (ltb (length s) headSize) 1
     (cond (not (eqb (lengthOf s) (length s))) 2
-    (cond (not (eqb (versionOf s) 1)) 3
+    (cond (not (eqb (versionOf s) onlyVersion)) 3
     (cond (ltb mostBound (boundOf s)) 8
     (cond (eqb (countOf s) 0) 8
     (cond (ltb mostEntries (countOf s)) 8 0)))))
@@ -147,7 +147,7 @@ headRefusal s =
 unfoldable pub tooLarge : ℕ → ℕ → List ℕ → ℕ → Bool
 tooLarge c kind s at =
     cond (ltb kind 4) false
-    (cond (eqb kind 4) (ltb mostSteps (firstCount s at))
+    (cond (eqb kind 4) (ltb (mostSteps onlyVersion) (firstCount s at))
     (ltb c (firstCount s at) || ltb c (secondCount s at)))
 
 -- The size that the body at `at` is required to have.
@@ -156,8 +156,8 @@ required kind s at =
     cond (eqb kind 0) 0
     (cond (eqb kind 1) numberWidth
     (cond (ltb kind 4) (2 * numberWidth)
-    (cond (eqb kind 4) (1 + stepWidth * firstCount s at)
-    (2 + stepWidth * (firstCount s at + secondCount s at)))))
+    (cond (eqb kind 4) (1 + stepWidth onlyVersion * firstCount s at)
+    (2 + stepWidth onlyVersion * (firstCount s at + secondCount s at)))))
 
 -- "12: a number not earlier", of the numbers in entry n.
 unfoldable pub numbersRefusal : ℕ → List ℕ → ℕ
@@ -175,7 +175,7 @@ bodyRefusal s c n kind at size =
 
 -- "10: kind above 6; 13: entry 0 not kind 0."
 unfoldable pub kindRefusal : ℕ → ℕ → ℕ
-kindRefusal n kind = cond (ltb mostKind kind) 10 (cond (eqb n 0 && not (eqb kind 0)) 13 0)
+kindRefusal n kind = cond (ltb (mostKind onlyVersion) kind) 10 (cond (eqb n 0 && not (eqb kind 0)) 13 0)
 
 -- The refusal of entry n, which starts at `at`. "9: the count byte is absent, 0, or reaches past the end"; then the kind's and the body's.
 unfoldable pub entryRefusal : List ℕ → ℕ → ℕ → ℕ → ℕ

@@ -4,7 +4,7 @@ ghost use mathlib.Core.List.{[], _∷_};
 ghost use Prim.Native.Nat.{_+_, _*_, _≤_, _<_};
 ghost use lib.ListN.{length, getD};
 ghost use Rattle.outcome.specs.Outcome.{code};
-ghost use Rattle.sheet.specs.Entry.{kindOf, firstWay, secondWay, stepIn, tests, numbers};
+ghost use Rattle.sheet.specs.Entry.{onlyVersion, kindOf, firstWay, secondWay, stepIn, tests, numbers};
 ghost use Rattle.sheet.specs.Sheet.{headSize, stepWidth, numberWidth, numberAt, stepsAt, entryAt, nextAt, entryStart, countOf, headRefusal, numbersRefusal, bodyRefusal, kindRefusal, entryRefusal, entriesRefusal, sheetRefusal, sheetAnswer, sheetOutcome};
 ghost use Rattle.sheet.specs.Reading.{Readable, HasNumber, HasWay, HasStep, Reads, stepsOf, firstPlace, secondPlace};
 
@@ -20,20 +20,35 @@ pub enum SheetAnswer {
 // The bytes of the header, of a label, of a number and of a step.
 const HEAD: usize = 8;
 
-const LABEL: usize = 1;
+pub const LABEL: usize = 1;
 
 const NUMBER: usize = 2;
 
 pub const STEP: usize = 3;
 
 // The largest bound, the most entries, the largest kind, and the most steps of a way.
-const MOST_BOUND: u8 = 4;
+pub const MOST_BOUND: u8 = 4;
 
 pub const MOST_ENTRIES: u16 = 16385;
 
-const MOST_KIND: u8 = 6;
+const MOST_KIND: u8 = KIND_DIFFER;
 
 const MOST_STEPS: usize = 60;
+
+// The kinds of an entry.
+pub const KIND_TRUE: u8 = 0;
+
+pub const KIND_NOT: u8 = 1;
+
+pub const KIND_AND: u8 = 2;
+
+pub const KIND_OR: u8 = 3;
+
+pub const KIND_WAY: u8 = 4;
+
+pub const KIND_SAME: u8 = 5;
+
+pub const KIND_DIFFER: u8 = 6;
 
 // A byte as a size.
 fn wide(x: u8) -> usize
@@ -81,7 +96,7 @@ fn kind_refusal(n: u16, kind: u8) -> u8
     if n != 0 {
         return 0;
     }
-    if kind != 0 {
+    if kind != KIND_TRUE {
         return 13;
     }
     0
@@ -101,7 +116,7 @@ fn number_refusal(s: &[u8], n: u16, at: usize) -> u8
 
 // 12 where one of the tests of `count` steps from `base` on does not name an entry before n, else 0.
 fn tests_refusal(s: &[u8], n: u16, base: usize, count: usize) -> u8
-    requires { ⌜ base + stepWidth * count ≤ length (now s) ⌝ }
+    requires { ⌜ base + stepWidth onlyVersion * count ≤ length (now s) ⌝ }
     ensures { λ r. ⌜ r ≡ numbersRefusal n (tests (stepsAt (now (s .entry)) base count)) ⌝ }
 {
     let mut at = base;
@@ -122,13 +137,13 @@ fn plain_refusal(s: &[u8], n: u16, kind: u8, at: usize, size: usize) -> u8
     requires { ⌜ (kind < 4) × (at + size ≤ length (now s)) ⌝ }
     ensures { λ r. ⌜ r ≡ bodyRefusal (now (s .entry)) 0 n kind at size ⌝ }
 {
-    if kind == 0 {
+    if kind == KIND_TRUE {
         if size != 0 {
             return 14;
         }
         return 0;
     }
-    if kind == 1 {
+    if kind == KIND_NOT {
         if size != NUMBER {
             return 14;
         }
@@ -190,10 +205,10 @@ fn body_refusal(s: &[u8], c: u8, n: u16, kind: u8, at: usize, size: usize) -> u8
     requires { ⌜ (at + size ≤ length (now s)) × (kind ≤ 6) ⌝ }
     ensures { λ r. ⌜ r ≡ bodyRefusal (now (s .entry)) c n kind at size ⌝ }
 {
-    if kind < 4 {
+    if kind < KIND_WAY {
         return plain_refusal(s, n, kind, at, size);
     }
-    if kind == 4 {
+    if kind == KIND_WAY {
         return way_refusal(s, n, at, size);
     }
     comparison_refusal(s, c, n, at, size)

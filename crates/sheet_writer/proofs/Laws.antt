@@ -1,4 +1,4 @@
--- What each writer leaves in the room, where what the calls before it left is known. Assumes nothing.
+-- What each writer leaves in the room, where what the calls before it left is known.
 use mathlib.Core.List.{List, [], _∷_, _++_, append-assoc, append-nil}
 use mathlib.Core.Path.{_≡_, refl, sym, ap, ap₂, _∙_}
 use Prim.Native.Nat.{ℕ, zero, suc, _+_, _-_, _*_, _/_, _%_, _≤_, _<_}
@@ -8,12 +8,13 @@ use lib.ListN.{length, getD, set, length-append}
 use lib.Seq.{sets}
 use Rattle.fields.specs.Fields.{bytesOf, withField}
 use Rattle.fields.specs.Laws.{length-bytesOf, sets-append}
-use Rattle.sheet.specs.Entry.{Step, entryWith, kindOf, truth, negation, conjunction, disjunction, way}
+use Rattle.sheet.specs.Entry.{onlyVersion, Step, entryWith, kindOf, truth, negation, conjunction, disjunction, way}
 use Rattle.sheet.specs.Sheet.{labelWidth, numberWidth, stepWidth}
 use Rattle.sheet.specs.Encoding.{encodeSteps, bodyOf, encodeEntry, header}
-use Rattle.sheet.specs.Accepted.{kind-cases}
-use Rattle.sheet.specs.Written.{sizeOf, length-encodeSteps}
-use Rattle.sheet_writer.specs.Writing.{step, stepsFrom, stepsGiven, Wrote, WroteWays}
+use Rattle.sheet.specs.AcceptedLaws.{kind-cases}
+use Rattle.sheet.specs.WrittenLaws.{sizeOf, length-encodeSteps}
+use Rattle.sheet_writer.specs.Writing.{step, stepsFrom, stepsGiven, PutEntry, PutWays}
+use Rattle.sheet_writer.specs.WritingLaws.{put-entry}
 
 -- one run of bytes behind another
 after : {mid exit : List ℕ} (room : List ℕ) (at to : ℕ) (us vs : List ℕ) → mid ≡ sets room at us → exit ≡ sets mid to vs → to ≡ at + length us → exit ≡ sets room at (us ++ vs)
@@ -28,13 +29,13 @@ unfolding withField header
 header-written room mid end exit l c q p d e =
     after room 0 4 (bytesOf 4 l) (1 ∷ c ∷ bytesOf 2 q) p (after mid 4 6 (1 ∷ c ∷ []) (bytesOf 2 q) d e (omega arith)) (omega (arith, length-bytesOf 4 l))
 
-pub true-written : (room exit : List ℕ) (at : ℕ) → exit ≡ sets room at (1 ∷ 0 ∷ []) → Wrote room at truth exit (at + 2)
+pub true-written : (room exit : List ℕ) (at : ℕ) → exit ≡ sets room at (1 ∷ 0 ∷ []) → PutEntry room at truth exit (at + 2)
 unfolding encodeEntry bodyOf kindOf sizeOf
-true-written room exit at p = record { bytes = p; end = refl }
+true-written room exit at p = put-entry truth p refl
 
-pub not-written : (room mid exit : List ℕ) (at i : ℕ) → mid ≡ sets room at (3 ∷ 1 ∷ []) → exit ≡ withField 2 mid (at + 2) i → Wrote room at (negation i) exit (at + 4)
+pub not-written : (room mid exit : List ℕ) (at i : ℕ) → mid ≡ sets room at (3 ∷ 1 ∷ []) → exit ≡ withField 2 mid (at + 2) i → PutEntry room at (negation i) exit (at + 4)
 unfolding withField encodeEntry bodyOf kindOf sizeOf bytesOf
-not-written room mid exit at i p q = record { bytes = after room at (at + 2) (3 ∷ 1 ∷ []) (bytesOf 2 i) p q refl; end = refl }
+not-written room mid exit at i p q = put-entry (negation i) (after room at (at + 2) (3 ∷ 1 ∷ []) (bytesOf 2 i) p q refl) refl
 
 two-bytes : (i j k : ℕ) → k ≤ 6 → 2 ≤ k → k ≤ 3
     → (encodeEntry (entryWith k i j [] []) ≡ 5 ∷ k ∷ (bytesOf 2 i ++ bytesOf 2 j)) × (sizeOf (entryWith k i j [] []) ≡ 6)
@@ -45,23 +46,20 @@ two-bytes i j =
     (λ h l. absurd (omega arith)) (λ h l. absurd (omega arith))
 
 pub two-written : (room mid end exit : List ℕ) (at kind i j : ℕ) → mid ≡ sets room at (5 ∷ kind ∷ []) → end ≡ withField 2 mid (at + 2) i
-    → exit ≡ withField 2 end (at + 4) j → 2 ≤ kind → kind ≤ 3 → Wrote room at (entryWith kind i j [] []) exit (at + 6)
+    → exit ≡ withField 2 end (at + 4) j → 2 ≤ kind → kind ≤ 3 → PutEntry room at (entryWith kind i j [] []) exit (at + 6)
 unfolding withField
 two-written room mid end exit at kind i j p q r h l =
     let (b, z) = two-bytes i j kind (omega arith) h l in
-    record {
-      bytes =
-          after room at (at + 2) (5 ∷ kind ∷ []) (bytesOf 2 i ++ bytesOf 2 j) p
-          (after mid (at + 2) (at + 4) (bytesOf 2 i) (bytesOf 2 j) q r (omega (arith, length-bytesOf 2 i))) refl
-          ∙ ap (sets room at) (sym b);
-      end = omega arith;
-    }
+    put-entry (entryWith kind i j [] [])
+    (after room at (at + 2) (5 ∷ kind ∷ []) (bytesOf 2 i ++ bytesOf 2 j) p
+    (after mid (at + 2) (at + 4) (bytesOf 2 i) (bytesOf 2 j) q r (omega (arith, length-bytesOf 2 i))) refl
+    ∙ ap (sets room at) (sym b)) (omega arith)
 
-pub and-written : (room exit : List ℕ) (at i j next : ℕ) → Wrote room at (entryWith 2 i j [] []) exit next → Wrote room at (conjunction i j) exit next
+pub and-written : (room exit : List ℕ) (at i j next : ℕ) → PutEntry room at (entryWith 2 i j [] []) exit next → PutEntry room at (conjunction i j) exit next
 unfolding entryWith
 and-written room exit at i j next w = w
 
-pub or-written : (room exit : List ℕ) (at i j next : ℕ) → Wrote room at (entryWith 3 i j [] []) exit next → Wrote room at (disjunction i j) exit next
+pub or-written : (room exit : List ℕ) (at i j next : ℕ) → PutEntry room at (entryWith 3 i j [] []) exit next → PutEntry room at (disjunction i j) exit next
 unfolding entryWith
 or-written room exit at i j next w = w
 
@@ -72,11 +70,11 @@ unfolding encodeSteps
 encodeSteps-append [] ts = refl
 encodeSteps-append (s ∷ ss) ts = rw (encodeSteps-append ss ts) (simp append-assoc)
 
-pub step-written : (room mid exit : List ℕ) (at a i : ℕ) → mid ≡ withField labelWidth room at a → exit ≡ withField numberWidth mid (at + labelWidth) i
+pub step-written : (room mid exit : List ℕ) (at a i : ℕ) → mid ≡ withField (labelWidth onlyVersion) room at a → exit ≡ withField numberWidth mid (at + labelWidth onlyVersion) i
     → exit ≡ sets room at (encodeSteps (step a i ∷ []))
 unfolding encodeSteps withField
 step-written room mid exit at a i p q =
-    rw append-nil (after room at (at + labelWidth) (bytesOf labelWidth a) (bytesOf numberWidth i) p q (omega (arith, length-bytesOf labelWidth a)))
+    rw append-nil (after room at (at + labelWidth onlyVersion) (bytesOf (labelWidth onlyVersion) a) (bytesOf numberWidth i) p q (omega (arith, length-bytesOf (labelWidth onlyVersion) a)))
 
 pub length-stepsFrom : (labels tests : List ℕ) (i k : ℕ) → length (stepsFrom labels tests i k) ≡ k
 unfolding stepsFrom
@@ -99,11 +97,11 @@ module _ (start : List ℕ) (base : ℕ) (labels tests : List ℕ) (count : ℕ)
       none k e = rw e
 
   pub steps-next : (room end : List ℕ) (at i : ℕ) → Rest room at i → i < count
-      → end ≡ sets room at (encodeSteps (step (getD labels i 0) (getD tests i 0) ∷ [])) → Rest end (at + stepWidth) (i + 1)
+      → end ≡ sets room at (encodeSteps (step (getD labels i 0) (getD tests i 0) ∷ [])) → Rest end (at + stepWidth onlyVersion) (i + 1)
   unfolding stepsFrom
   steps-next room end at i h l p = h ∙ next (count - i) (count - (i + 1)) (omega arith)
     where
-      next : (k k′ : ℕ) → k ≡ suc k′ → sets room at (encodeSteps (stepsFrom labels tests i k)) ≡ sets end (at + stepWidth) (encodeSteps (stepsFrom labels tests (i + 1) k′))
+      next : (k k′ : ℕ) → k ≡ suc k′ → sets room at (encodeSteps (stepsFrom labels tests i k)) ≡ sets end (at + stepWidth onlyVersion) (encodeSteps (stepsFrom labels tests (i + 1) k′))
       next k k′ e =
           let S = step (getD labels i 0) (getD tests i 0) ∷ [] in
           let T = stepsFrom labels tests (i + 1) k′ in
@@ -117,42 +115,41 @@ byte-bytes : (k : ℕ) → k < 256 → bytesOf 1 k ≡ k ∷ []
 unfolding bytesOf
 byte-bytes k h = ap (λ x. x ∷ []) (let e : k / 1 % 256 ≡ k = omega arith in e)
 
-pub way-written : (room mid end exit : List ℕ) (at k next : ℕ) (labels tests : List ℕ) → k ≤ 60 → mid ≡ sets room at ((2 + stepWidth * k) ∷ 4 ∷ [])
-    → end ≡ withField 1 mid (at + 2) k → exit ≡ sets end (at + 3) (encodeSteps (stepsGiven labels tests k)) → next ≡ at + 3 + stepWidth * k
-    → Wrote room at (way (stepsGiven labels tests k)) exit next
+pub way-written : (room mid end exit : List ℕ) (at k next : ℕ) (labels tests : List ℕ) → k ≤ 60 → mid ≡ sets room at ((2 + stepWidth onlyVersion * k) ∷ 4 ∷ [])
+    → end ≡ withField 1 mid (at + 2) k → exit ≡ sets end (at + 3) (encodeSteps (stepsGiven labels tests k)) → next ≡ at + 3 + stepWidth onlyVersion * k
+    → PutEntry room at (way (stepsGiven labels tests k)) exit next
 unfolding withField encodeEntry bodyOf kindOf sizeOf
 way-written room mid end exit at k next labels tests h p q r e =
     let S = encodeSteps (stepsGiven labels tests k) in
     let l = length-stepsFrom labels tests 0 k in
-    record {
-      bytes =
-          after room at (at + 2) ((2 + stepWidth * k) ∷ 4 ∷ []) (k ∷ S) p
-          (after mid (at + 2) (at + 3) (k ∷ []) S (q ∙ ap (sets mid (at + 2)) (byte-bytes k (omega arith))) r (omega arith)) refl
-          ∙ ap₂ (λ a b. sets room at (a ∷ 4 ∷ b ∷ S)) (omega (arith, length-encodeSteps (stepsGiven labels tests k))) (sym l);
-      end = omega arith;
-    }
+    put-entry (way (stepsGiven labels tests k))
+    (after room at (at + 2) ((2 + stepWidth onlyVersion * k) ∷ 4 ∷ []) (k ∷ S) p
+    (after mid (at + 2) (at + 3) (k ∷ []) S (q ∙ ap (sets mid (at + 2)) (byte-bytes k (omega arith))) r (omega arith)) refl
+    ∙ ap₂ (λ a b. sets room at (a ∷ 4 ∷ b ∷ S)) (omega (arith, length-encodeSteps (stepsGiven labels tests k))) (sym l)) (omega arith)
 
-pub counts-written : (room mid exit : List ℕ) (at kind k j : ℕ) → mid ≡ sets room at ((3 + stepWidth * (k + j)) ∷ kind ∷ []) → exit ≡ sets mid (at + 2) (k ∷ j ∷ [])
-    → exit ≡ sets room at ((3 + stepWidth * (k + j)) ∷ kind ∷ k ∷ j ∷ [])
-counts-written room mid exit at kind k j p q = after room at (at + 2) ((3 + stepWidth * (k + j)) ∷ kind ∷ []) (k ∷ j ∷ []) p q refl
+pub counts-written : (room mid exit : List ℕ) (at kind k j : ℕ) → mid ≡ sets room at ((3 + stepWidth onlyVersion * (k + j)) ∷ kind ∷ []) → exit ≡ sets mid (at + 2) (k ∷ j ∷ [])
+    → exit ≡ sets room at ((3 + stepWidth onlyVersion * (k + j)) ∷ kind ∷ k ∷ j ∷ [])
+counts-written room mid exit at kind k j p q = after room at (at + 2) ((3 + stepWidth onlyVersion * (k + j)) ∷ kind ∷ []) (k ∷ j ∷ []) p q refl
 
 pub ways-written : (room mid exit : List ℕ) (at k j to next : ℕ) (labels tests labels′ tests′ : List ℕ)
-    → mid ≡ sets room at (encodeSteps (stepsGiven labels tests k)) → to ≡ at + stepWidth * k → exit ≡ sets mid to (encodeSteps (stepsGiven labels′ tests′ j)) → next ≡ to + stepWidth * j
-    → WroteWays room at (stepsGiven labels tests k) (stepsGiven labels′ tests′ j) exit next
+    → mid ≡ sets room at (encodeSteps (stepsGiven labels tests k)) → to ≡ at + stepWidth onlyVersion * k → exit ≡ sets mid to (encodeSteps (stepsGiven labels′ tests′ j)) → next ≡ to + stepWidth onlyVersion * j
+    → PutWays room at (stepsGiven labels tests k) (stepsGiven labels′ tests′ j) exit next
 ways-written room mid exit at k j to next labels tests labels′ tests′ p t q e =
     let m = length-stepsFrom labels tests 0 k in
     let m′ = length-stepsFrom labels′ tests′ 0 j in
     let S = encodeSteps (stepsGiven labels tests k) in
-    record { bytes = after room at to S (encodeSteps (stepsGiven labels′ tests′ j)) p q (omega (arith, length-encodeSteps (stepsGiven labels tests k))); end = omega arith }
+    let S′ = encodeSteps (stepsGiven labels′ tests′ j) in
+    let n = length-encodeSteps (stepsGiven labels tests k) in
+    record { left = after room at to S S′ p q (omega (arith, n)); end = omega (arith, n, length-encodeSteps (stepsGiven labels′ tests′ j), length-append S S′) }
 
 -- the bytes of a same or a differ
 comparison-bytes : (s s′ : List Step) (n k : ℕ) → k ≤ 6 → 5 ≤ k → n ≡ 3 + length (encodeSteps s ++ encodeSteps s′)
-    → (encodeEntry (entryWith k 0 0 s s′) ≡ n ∷ k ∷ length s ∷ length s′ ∷ (encodeSteps s ++ encodeSteps s′)) × (sizeOf (entryWith k 0 0 s s′) ≡ 4 + stepWidth * (length s + length s′))
+    → (encodeEntry (entryWith k 0 0 s s′) ≡ n ∷ k ∷ length s ∷ length s′ ∷ (encodeSteps s ++ encodeSteps s′)) × (sizeOf (entryWith k 0 0 s s′) ≡ 4 + stepWidth onlyVersion * (length s + length s′))
 unfolding encodeEntry bodyOf kindOf sizeOf entryWith
 comparison-bytes s s′ n =
     kind-cases
     (λ k. 5 ≤ k → n ≡ 3 + length (encodeSteps s ++ encodeSteps s′)
-    → (encodeEntry (entryWith k 0 0 s s′) ≡ n ∷ k ∷ length s ∷ length s′ ∷ (encodeSteps s ++ encodeSteps s′)) × (sizeOf (entryWith k 0 0 s s′) ≡ 4 + stepWidth * (length s + length s′)))
+    → (encodeEntry (entryWith k 0 0 s s′) ≡ n ∷ k ∷ length s ∷ length s′ ∷ (encodeSteps s ++ encodeSteps s′)) × (sizeOf (entryWith k 0 0 s s′) ≡ 4 + stepWidth onlyVersion * (length s + length s′)))
     (λ h. absurd (omega arith)) (λ h. absurd (omega arith)) (λ h. absurd (omega arith)) (λ h. absurd (omega arith)) (λ h. absurd (omega arith))
     (λ h e. (counted 5 e, refl)) (λ h e. (counted 6 e, refl))
   where
@@ -162,9 +159,9 @@ comparison-bytes s s′ n =
     counted k e = ap (λ n. n ∷ k ∷ length s ∷ length s′ ∷ (encodeSteps s ++ encodeSteps s′)) (omega arith)
 
 pub comparison-written : (room mid exit : List ℕ) (at kind k j next : ℕ) (labels tests labels′ tests′ : List ℕ) → 5 ≤ kind → kind ≤ 6
-    → mid ≡ sets room at ((3 + stepWidth * (k + j)) ∷ kind ∷ k ∷ j ∷ [])
-    → WroteWays mid (at + 4) (stepsGiven labels tests k) (stepsGiven labels′ tests′ j) exit next
-    → Wrote room at (entryWith kind 0 0 (stepsGiven labels tests k) (stepsGiven labels′ tests′ j)) exit next
+    → mid ≡ sets room at ((3 + stepWidth onlyVersion * (k + j)) ∷ kind ∷ k ∷ j ∷ [])
+    → PutWays mid (at + 4) (stepsGiven labels tests k) (stepsGiven labels′ tests′ j) exit next
+    → PutEntry room at (entryWith kind 0 0 (stepsGiven labels tests k) (stepsGiven labels′ tests′ j)) exit next
 comparison-written room mid exit at kind k j next labels tests labels′ tests′ h l p w =
     let s = stepsGiven labels tests k in
     let s′ = stepsGiven labels′ tests′ j in
@@ -172,10 +169,8 @@ comparison-written room mid exit at kind k j next labels tests labels′ tests�
     let S′ = encodeSteps s′ in
     let m = length-stepsFrom labels tests 0 k in
     let m′ = length-stepsFrom labels′ tests′ 0 j in
-    let (b, z) = comparison-bytes s s′ (3 + stepWidth * (k + j)) kind l h (omega (arith, length-append S S′, length-encodeSteps s, length-encodeSteps s′)) in
-    record {
-      bytes =
-          after room at (at + 4) ((3 + stepWidth * (k + j)) ∷ kind ∷ k ∷ j ∷ []) (S ++ S′) p (w .bytes) refl
-          ∙ ap₂ (λ a c. sets room at ((3 + stepWidth * (k + j)) ∷ kind ∷ a ∷ c ∷ (S ++ S′))) (sym m) (sym m′) ∙ ap (sets room at) (sym b);
-      end = omega (arith, w .end);
-    }
+    let (b, z) = comparison-bytes s s′ (3 + stepWidth onlyVersion * (k + j)) kind l h (omega (arith, length-append S S′, length-encodeSteps s, length-encodeSteps s′)) in
+    put-entry (entryWith kind 0 0 s s′)
+    (after room at (at + 4) ((3 + stepWidth onlyVersion * (k + j)) ∷ kind ∷ k ∷ j ∷ []) (S ++ S′) p (w .left) refl
+    ∙ ap₂ (λ a c. sets room at ((3 + stepWidth onlyVersion * (k + j)) ∷ kind ∷ a ∷ c ∷ (S ++ S′))) (sym m) (sym m′) ∙ ap (sets room at) (sym b))
+    (omega (arith, w .end, length-append S S′, length-encodeSteps s, length-encodeSteps s′))

@@ -1,14 +1,12 @@
--- Writing a sheet into lent room: what an entry's writer leaves there, and that the room then holds the sheet of the entries written.
-use mathlib.Core.List.{List, [], _∷_, _++_, append-assoc}
-use mathlib.Core.Path.{_≡_, refl, sym, ap, ap₂, _∙_}
-use Prim.Native.Nat.{ℕ, zero, suc, _+_, _-_, _*_, _≤_}
-use native.Mathlib.Omega.{arith}
-use lib.ListN.{length, getD, take, drop, length-append, length-drop}
-use lib.Seq.{sets, sets-eq, length-sets, length-take-le, take-at, drop-at, take-add, drop-append-le, take-append-add, drop-append-add, drop-drop}
-use Rattle.sheet.specs.Entry.{Step, Entry}
+-- Writing a sheet into lent room: what an entry's writer leaves there, and what the room then holds.
+use mathlib.Core.List.{List, [], _∷_, _++_}
+use mathlib.Core.Path.{_≡_}
+use Prim.Native.Nat.{ℕ, zero, suc, _+_, _*_, _≤_}
+use lib.ListN.{length, getD, take, drop}
+use Rattle.fields.specs.Runs.{PutBytes}
+use Rattle.sheet.specs.Entry.{onlyVersion, Step, Entry}
 use Rattle.sheet.specs.Sheet.{headSize, mostBound, stepWidth}
-use Rattle.sheet.specs.Encoding.{encodeSteps, encodeEntry, encode, header, sheetBytes}
-use Rattle.sheet.specs.Written.{sizeOf, length-encodeEntry, encode-snoc, length-header}
+use Rattle.sheet.specs.Encoding.{encodeSteps, encodeEntry, encode}
 
 -- A step.
 abbrev pub step : ℕ → ℕ → Step
@@ -27,115 +25,25 @@ stepsGiven labels tests k = stepsFrom labels tests 0 k
 pub record StepsFit (room : List ℕ) (at : ℕ) (labels tests : List ℕ) (count : ℕ) : Type 0 where
   pub labelled : count ≤ length labels
   pub tested : count ≤ length tests
-  pub inside : at + stepWidth * count ≤ length room
+  pub inside : at + stepWidth onlyVersion * count ≤ length room
 
 -- The same for two ways, one behind the other, each of at most 4 steps.
 pub record WaysFit (room : List ℕ) (at : ℕ) (labels tests : List ℕ) (count : ℕ) (labels′ tests′ : List ℕ) (count′ : ℕ) : Type 0 where
   pub short : count ≤ mostBound
   pub short′ : count′ ≤ mostBound
   pub first : StepsFit room at labels tests count
-  pub second : StepsFit room (at + stepWidth * count) labels′ tests′ count′
+  pub second : StepsFit room (at + stepWidth onlyVersion * count) labels′ tests′ count′
 
--- The entry e was written into the room at `at`, and nothing else; `next` is the byte after it.
-pub record Wrote (room : List ℕ) (at : ℕ) (e : Entry) (exit : List ℕ) (next : ℕ) : Type 0 where
-  pub bytes : exit ≡ sets room at (encodeEntry e)
-  pub end : next ≡ at + sizeOf e
+-- The entry e was put into the room at `at`, and nothing else changed; `next` is the byte after it.
+abbrev pub PutEntry : List ℕ → ℕ → Entry → List ℕ → ℕ → Type 0
+PutEntry room at e = PutBytes room at (encodeEntry e)
 
--- The steps of two ways were written into the room from `at` on, and nothing else.
-pub record WroteWays (room : List ℕ) (at : ℕ) (s s′ : List Step) (exit : List ℕ) (next : ℕ) : Type 0 where
-  pub bytes : exit ≡ sets room at (encodeSteps s ++ encodeSteps s′)
-  pub end : next ≡ at + stepWidth * (length s + length s′)
+-- The same of the steps of two ways.
+abbrev pub PutWays : List ℕ → ℕ → List Step → List Step → List ℕ → ℕ → Type 0
+PutWays room at s s′ = PutBytes room at (encodeSteps s ++ encodeSteps s′)
 
 -- The room holds the bytes of the entries es behind a header; the next entry goes to `at`.
 pub record Holding (room : List ℕ) (es : List Entry) (at : ℕ) : Type 0 where
   pub place : at ≡ headSize + length (encode es)
   pub inside : at ≤ length room
   pub bytes : take (length (encode es)) (drop headSize room) ≡ encode es
-
--- ---- a run of bytes written
-
-module _ {A : Type 0} where
-  take-drop : (n m : ℕ) (l : List A) → n ≤ length l → drop n (take (n + m) l) ≡ take m (drop n l)
-  take-drop n m l h = rw (take-add n m l) (drop-at (take n l) (take m (drop n l)) n (length-take-le n l h))
-
-  module _ (l : List A) (at : ℕ) (vs : List A) (h : at + length vs ≤ length l) where
-    parts : sets l at vs ≡ take at l ++ (vs ++ drop (at + length vs) l)
-    parts = sets-eq vs l at h ∙ append-assoc (take at l) vs (drop (at + length vs) l)
-
-    front : length (take at l) ≡ at
-    front = length-take-le at l (omega arith)
-
-    -- what is before it stays
-    pub take-sets : take at (sets l at vs) ≡ take at l
-    take-sets = rw parts (take-at (take at l) (vs ++ drop (at + length vs) l) at front)
-
-    -- what is after it stays
-    pub drop-sets : (n : ℕ) → at + length vs ≤ n → drop n (sets l at vs) ≡ drop n l
-    drop-sets n k =
-        rw parts
-        (ap (λ n. drop n (take at l ++ (vs ++ drop (at + length vs) l))) (let e : n ≡ length (take at l) + (length vs + (n - (at + length vs))) = omega (arith, front) in e)
-        ∙ drop-append-add (take at l) (vs ++ drop (at + length vs) l) (length vs + (n - (at + length vs)))
-        ∙ drop-append-add vs (drop (at + length vs) l) (n - (at + length vs)) ∙ drop-drop (n - (at + length vs)) (at + length vs) l
-        ∙ ap (λ m. drop m l) (let e : at + length vs + (n - (at + length vs)) ≡ n = omega arith in e))
-
-    -- from byte n on, what stood there and the run
-    pub take-drop-sets : (n m : ℕ) → n + m ≡ at → take (m + length vs) (drop n (sets l at vs)) ≡ take m (drop n l) ++ vs
-    take-drop-sets n m e =
-        let t : drop n (take at l) ≡ take m (drop n l) = rw (← e) (take-drop n m l (omega arith)) in
-        let k : length (drop n (take at l)) ≡ m = omega (arith, length-drop n (take at l), front) in
-        rw parts
-        (ap (take (m + length vs)) (drop-append-le n (take at l) (vs ++ drop (at + length vs) l) (omega (arith, front)))
-        ∙ ap (λ m. take (m + length vs) (drop n (take at l) ++ (vs ++ drop (at + length vs) l))) (sym k)
-        ∙ take-append-add (drop n (take at l)) (vs ++ drop (at + length vs) l) (length vs)
-        ∙ ap₂ _++_ t (take-at vs (drop (at + length vs) l) (length vs) refl))
-
--- ---- the room, entry by entry
-
--- no entry yet
-pub holding-none : (room : List ℕ) → headSize ≤ length room → Holding room [] headSize
-unfolding encode
-holding-none room h = record { place = refl; inside = h; bytes = refl }
-
-module _ {room : List ℕ} {es : List Entry} {at : ℕ} (h : Holding room es at) where
-  module _ {e : Entry} {exit : List ℕ} {next : ℕ} (w : Wrote room at e exit next) (fits : at + sizeOf e ≤ length room) where
-    sized : at + length (encodeEntry e) ≤ length room
-    sized = omega (arith, length-encodeEntry e)
-
-    -- one entry more
-    pub holding-next : Holding exit (es ++ (e ∷ [])) next
-    holding-next =
-        record {
-          place = omega (arith, w .end, h .place, length-encodeEntry e, ap length (encode-snoc es e), length-append (encode es) (encodeEntry e));
-          inside = omega (arith, w .end, ap length (w .bytes), length-sets room at (encodeEntry e));
-          bytes =
-              rw (encode-snoc es e, length-append (encode es) (encodeEntry e), w .bytes)
-              (take-drop-sets room at (encodeEntry e) sized headSize (length (encode es)) (sym (h .place)) ∙ ap (λ l. l ++ encodeEntry e) (h .bytes));
-        }
-
-    -- the bytes after it stay
-    pub kept-after : (n : ℕ) → next ≤ n → drop n exit ≡ drop n room
-    kept-after n k = rw (w .bytes) (drop-sets room at (encodeEntry e) sized n (omega (arith, w .end, length-encodeEntry e)))
-
-  -- the header last: the room starts with the sheet, and the bytes after it stay
-  module _ (c : ℕ) {exit : List ℕ} (w : exit ≡ sets room 0 (header at c (length es))) where
-    headed : exit ≡ header at c (length es) ++ drop headSize room
-    headed =
-        let H = header at c (length es) in
-        w ∙ sets-eq H room 0 (omega (arith, h .place, h .inside, length-header at c (length es)))
-        ∙ ap (λ n. H ++ drop n room) (let e : 0 + length H ≡ headSize = omega (arith, length-header at c (length es)) in e)
-
-    pub holding-sheet : take at exit ≡ sheetBytes c es
-    unfolding sheetBytes
-    holding-sheet =
-        let H = header at c (length es) in
-        rw headed
-        (ap (λ n. take n (H ++ drop headSize room)) (let e : at ≡ length H + length (encode es) = omega (arith, h .place, length-header at c (length es)) in e)
-        ∙ take-append-add H (drop headSize room) (length (encode es)) ∙ ap₂ _++_ (ap (λ n. header n c (length es)) (h .place)) (h .bytes))
-
-    pub sheet-kept-after : (n : ℕ) → headSize ≤ n → drop n exit ≡ drop n room
-    sheet-kept-after n k =
-        let H = header at c (length es) in
-        rw headed
-        (ap (λ n. drop n (H ++ drop headSize room)) (let e : n ≡ length H + (n - headSize) = omega (arith, length-header at c (length es)) in e)
-        ∙ drop-append-add H (drop headSize room) (n - headSize) ∙ drop-drop (n - headSize) headSize room
-        ∙ ap (λ m. drop m room) (let e : headSize + (n - headSize) ≡ n = omega arith in e))

@@ -4,18 +4,14 @@ ghost use mathlib.Core.Path.{_≡_};
 ghost use Prim.Native.Nat.{_+_, _*_, _≤_};
 ghost use lib.ListN.{length};
 ghost use lib.Seq.{sets};
-ghost use Rattle.sheet.specs.Entry.{truth, negation, conjunction, disjunction, way, entryWith, mostSteps};
+ghost use Rattle.sheet.specs.Entry.{onlyVersion, truth, negation, conjunction, disjunction, way, entryWith, mostSteps};
 ghost use Rattle.sheet.specs.Sheet.{headSize, mostBound, stepWidth};
 ghost use Rattle.sheet.specs.Encoding.{encodeSteps, header};
-ghost use Rattle.sheet_writer.specs.Writing.{step, stepsGiven, Wrote, StepsFit, WaysFit, WroteWays};
+ghost use Rattle.sheet_writer.specs.Writing.{step, stepsGiven, PutEntry, StepsFit, WaysFit, PutWays};
 use sheet::Question;
 
-// The bytes of a label and of a step.
-const LABEL: usize = 1;
-
-const STEP: usize = 3;
-
-const STEP_BYTES: u8 = 3;
+// The bytes of a step, as a byte.
+const STEP_BYTES: u8 = sheet::STEP as u8;
 
 // Writes two bytes at `at`.
 fn put_pair(room: &mut [u8], at: usize, first: u8, second: u8)
@@ -39,18 +35,18 @@ pub fn put_header(room: &mut [u8], total: u32, bound: u8, entries: u16)
 // Writes a true at `at`, and gives the byte after it.
 pub fn put_true(room: &mut [u8], at: usize) -> usize
     requires { ⌜ at + 2 ≤ length (now room) ⌝ }
-    ensures { λ r. ⌜ Wrote (now (room .entry)) at truth (now (room .exit)) r ⌝ }
+    ensures { λ r. ⌜ PutEntry (now (room .entry)) at truth (now (room .exit)) r ⌝ }
 {
-    put_pair(room, at, 1, 0);
+    put_pair(room, at, 1, sheet::KIND_TRUE);
     at + 2
 }
 
 // Writes "not q" at `at`, and gives the byte after it.
 pub fn put_not(room: &mut [u8], at: usize, q: Question) -> usize
     requires { ⌜ at + 4 ≤ length (now room) ⌝ }
-    ensures { λ r. ⌜ Wrote (now (room .entry)) at (negation (q .0)) (now (room .exit)) r ⌝ }
+    ensures { λ r. ⌜ PutEntry (now (room .entry)) at (negation (q .0)) (now (room .exit)) r ⌝ }
 {
-    put_pair(room, at, 3, 1);
+    put_pair(room, at, 3, sheet::KIND_NOT);
     fields::put2(room, at + 2, q.0);
     at + 4
 }
@@ -58,7 +54,7 @@ pub fn put_not(room: &mut [u8], at: usize, q: Question) -> usize
 // Writes an entry of kind 2 or 3 at `at`, and gives the byte after it.
 fn put_two(room: &mut [u8], at: usize, kind: u8, p: Question, q: Question) -> usize
     requires { ⌜ (at + 6 ≤ length (now room)) × (2 ≤ kind) × (kind ≤ 3) ⌝ }
-    ensures { λ r. ⌜ Wrote (now (room .entry)) at (entryWith kind (p .0) (q .0) [] []) (now (room .exit)) r ⌝ }
+    ensures { λ r. ⌜ PutEntry (now (room .entry)) at (entryWith kind (p .0) (q .0) [] []) (now (room .exit)) r ⌝ }
 {
     put_pair(room, at, 5, kind);
     fields::put2(room, at + 2, p.0);
@@ -69,33 +65,33 @@ fn put_two(room: &mut [u8], at: usize, kind: u8, p: Question, q: Question) -> us
 // Writes "p and q" at `at`, and gives the byte after it.
 pub fn put_and(room: &mut [u8], at: usize, p: Question, q: Question) -> usize
     requires { ⌜ at + 6 ≤ length (now room) ⌝ }
-    ensures { λ r. ⌜ Wrote (now (room .entry)) at (conjunction (p .0) (q .0)) (now (room .exit)) r ⌝ }
+    ensures { λ r. ⌜ PutEntry (now (room .entry)) at (conjunction (p .0) (q .0)) (now (room .exit)) r ⌝ }
 {
-    put_two(room, at, 2, p, q)
+    put_two(room, at, sheet::KIND_AND, p, q)
 }
 
 // Writes "p or q" at `at`, and gives the byte after it.
 pub fn put_or(room: &mut [u8], at: usize, p: Question, q: Question) -> usize
     requires { ⌜ at + 6 ≤ length (now room) ⌝ }
-    ensures { λ r. ⌜ Wrote (now (room .entry)) at (disjunction (p .0) (q .0)) (now (room .exit)) r ⌝ }
+    ensures { λ r. ⌜ PutEntry (now (room .entry)) at (disjunction (p .0) (q .0)) (now (room .exit)) r ⌝ }
 {
-    put_two(room, at, 3, p, q)
+    put_two(room, at, sheet::KIND_OR, p, q)
 }
 
 // Writes a step at `at`: its label, and the number of its test.
 fn put_step(room: &mut [u8], at: usize, label: u8, test: u16)
-    requires { ⌜ at + stepWidth ≤ length (now room) ⌝ }
+    requires { ⌜ at + stepWidth onlyVersion ≤ length (now room) ⌝ }
     ensures { λ r. ⌜ now (room .exit) ≡ sets (now (room .entry)) at (encodeSteps (step label test ∷ [])) ⌝ }
 {
     fields::put1(room, at, label);
-    fields::put2(room, at + LABEL, test);
+    fields::put2(room, at + sheet::LABEL, test);
 }
 
 // Writes `count` steps from `base` on, and gives the byte after them.
 fn put_steps(room: &mut [u8], base: usize, labels: &[u8], tests: &[u16], count: usize) -> usize
     requires { ⌜ StepsFit (now room) base (now labels) (now tests) count ⌝ }
     ensures bytes { λ r. ⌜ now (room .exit) ≡ sets (now (room .entry)) base (encodeSteps (stepsGiven (now (labels .entry)) (now (tests .entry)) count)) ⌝ }
-    ensures end { λ r. ⌜ r ≡ base + stepWidth * count ⌝ }
+    ensures end { λ r. ⌜ r ≡ base + stepWidth onlyVersion * count ⌝ }
 {
     let mut at = base;
     let mut i = 0;
@@ -103,7 +99,7 @@ fn put_steps(room: &mut [u8], base: usize, labels: &[u8], tests: &[u16], count: 
         let label = labels[i];
         let test = tests[i];
         put_step(room, at, label, test);
-        at += STEP;
+        at += sheet::STEP;
         i += 1;
     }
     at
@@ -111,10 +107,10 @@ fn put_steps(room: &mut [u8], base: usize, labels: &[u8], tests: &[u16], count: 
 
 // Writes "there is a way" of the first `count` steps given, at most 60, at `at`, and gives the byte after it.
 pub fn put_way(room: &mut [u8], at: usize, labels: &[u8], tests: &[u16], count: u8) -> usize
-    requires { ⌜ (count ≤ mostSteps) × StepsFit (now room) (at + 3) (now labels) (now tests) count ⌝ }
-    ensures { λ r. ⌜ Wrote (now (room .entry)) at (way (stepsGiven (now (labels .entry)) (now (tests .entry)) count)) (now (room .exit)) r ⌝ }
+    requires { ⌜ (count ≤ mostSteps onlyVersion) × StepsFit (now room) (at + 3) (now labels) (now tests) count ⌝ }
+    ensures { λ r. ⌜ PutEntry (now (room .entry)) at (way (stepsGiven (now (labels .entry)) (now (tests .entry)) count)) (now (room .exit)) r ⌝ }
 {
-    put_pair(room, at, 2 + STEP_BYTES * count, 4);
+    put_pair(room, at, 2 + STEP_BYTES * count, sheet::KIND_WAY);
     fields::put1(room, at + 2, count);
     put_steps(room, at + 3, labels, tests, count as usize)
 }
@@ -122,7 +118,7 @@ pub fn put_way(room: &mut [u8], at: usize, labels: &[u8], tests: &[u16], count: 
 // Writes the count byte, the kind and the step counts of a same or a differ at `at`.
 fn put_counts(room: &mut [u8], at: usize, kind: u8, count: u8, count2: u8)
     requires { ⌜ (at + 4 ≤ length (now room)) × (count ≤ mostBound) × (count2 ≤ mostBound) ⌝ }
-    ensures { λ r. ⌜ now (room .exit) ≡ sets (now (room .entry)) at ((3 + stepWidth * (count + count2)) ∷ kind ∷ count ∷ count2 ∷ []) ⌝ }
+    ensures { λ r. ⌜ now (room .exit) ≡ sets (now (room .entry)) at ((3 + stepWidth onlyVersion * (count + count2)) ∷ kind ∷ count ∷ count2 ∷ []) ⌝ }
 {
     put_pair(room, at, 3 + STEP_BYTES * (count + count2), kind);
     put_pair(room, at + 2, count, count2);
@@ -140,7 +136,7 @@ fn put_ways(
     count2: u8,
 ) -> usize
     requires { ⌜ WaysFit (now room) at (now labels) (now tests) count (now labels2) (now tests2) count2 ⌝ }
-    ensures { λ r. ⌜ WroteWays (now (room .entry)) at (stepsGiven (now (labels .entry)) (now (tests .entry)) count) (stepsGiven (now (labels2 .entry)) (now (tests2 .entry)) count2) (now (room .exit)) r ⌝ }
+    ensures { λ r. ⌜ PutWays (now (room .entry)) at (stepsGiven (now (labels .entry)) (now (tests .entry)) count) (stepsGiven (now (labels2 .entry)) (now (tests2 .entry)) count2) (now (room .exit)) r ⌝ }
 {
     let mid = put_steps(room, at, labels, tests, count as usize);
     put_steps(room, mid, labels2, tests2, count2 as usize)
@@ -159,7 +155,7 @@ pub fn put_comparison(
     count2: u8,
 ) -> usize
     requires { ⌜ (5 ≤ kind) × (kind ≤ 6) × WaysFit (now room) (at + 4) (now labels) (now tests) count (now labels2) (now tests2) count2 ⌝ }
-    ensures { λ r. ⌜ Wrote (now (room .entry)) at (entryWith kind 0 0 (stepsGiven (now (labels .entry)) (now (tests .entry)) count) (stepsGiven (now (labels2 .entry)) (now (tests2 .entry)) count2)) (now (room .exit)) r ⌝ }
+    ensures { λ r. ⌜ PutEntry (now (room .entry)) at (entryWith kind 0 0 (stepsGiven (now (labels .entry)) (now (tests .entry)) count) (stepsGiven (now (labels2 .entry)) (now (tests2 .entry)) count2)) (now (room .exit)) r ⌝ }
 {
     put_counts(room, at, kind, count, count2);
     put_ways(room, at + 4, labels, tests, count, labels2, tests2, count2)

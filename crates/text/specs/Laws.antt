@@ -1,4 +1,4 @@
--- Laws of text: the digits of a number, and pieces one behind another. Assumes nothing.
+-- Laws of text: the digits of a number, and pieces one behind another.
 use mathlib.Core.Bool.{Bool, true, false, cond}
 use mathlib.Core.List.{List, [], _∷_, _++_, append-assoc}
 use mathlib.Core.Path.{_≡_, refl, ap, _∙_}

@@ -3,17 +3,19 @@ use mathlib.Core.Bool.{Bool, true, false, not, _&&_}
 use mathlib.Core.Path.{_≡_, refl, ap}
 use mathlib.Core.Logic.{⊎-elim}
 use mathlib.Core.List.{List, [], _∷_, map, List·Memᴰ, List·Memᴰ·not-nil, List·Memᴰ·cases-cons}
-use Prim.Native.Nat.{ℕ, _<_}
+use Prim.Native.Nat.{ℕ, _*_, _<_}
 use native.Mathlib.Omega.{arith}
+use lib.Dec.{leb}
 use lib.ListN.{getD}
 use Rattle.theory.specs.Search.{any, every, list}
 use Rattle.theory.specs.Graph.{comparisons, differ, Link, link, Graph, compared, dataGraph, WellFormed, Inside, has}
 use Rattle.theory.specs.Expression.{NodeExpr, stay, step, compare}
 use Rattle.theory.specs.Meaning.{reach, holds}
+use Rattle.theory.specs.Bound.{len, ml, depth}
 use Rattle.theory.specs.Path.{end, out, onward, paths}
 use Rattle.theory.specs.Bisimulation.{twoSided, Greatest}
 use Rattle.theory.specs.Rounds.{follow, met, twoPaths, oneLink, zigs, zags, Table, related, table, round, rounds, settled}
-use Rattle.theory.specs.Greatest.{greatest}
+use Rattle.theory.specs.GreatestLaws.{greatest}
 
 -- A graph whose links stay among its nodes.
 pub record Sound : Type 0 where
@@ -61,7 +63,8 @@ fork x y h k =
     sound 5 (5 ∷ 7 ∷ 7 ∷ 5 ∷ 6 ∷ []) (link 0 1 1 ∷ link 0 1 2 ∷ link 1 1 x ∷ link 2 1 y ∷ link 2 2 2 ∷ [])
     (omega arith)
 
--- An expression that is claimed true at a left node and false at a right node.
+-- An expression that is claimed to distinguish a left node from a right one: within the bound, no deeper than left nodes × right nodes, true at the left
+-- node and false at the right one.
 pub record Claim : Type 0 where
   pub expression : NodeExpr
   pub left : ℕ
@@ -111,11 +114,17 @@ pub record Outcome : Type 0 where
   pub pairs : Table
   pub claims : List Bool
 
+-- Whether a claim holds of two graphs at a bound.
+abbrev pub distinguishes : Graph → Graph → ℕ → Claim → Bool
+distinguishes l r c q =
+    leb (ml (q .expression)) c && (leb (depth (q .expression)) (l .size * r .size)
+    && (holds l (q .expression) (q .left) && not (holds r (q .expression) (q .right))))
+
 -- As the definitions compute them.
 abbrev pub computed : Row → Outcome
 computed x = record {
   pairs = settled twoSided (x .left .graph) (x .right .graph) (x .bound);
-  claims = map (λ q. holds (x .left .graph) (q .expression) (q .left) && not (holds (x .right .graph) (q .expression) (q .right))) (x .claims);
+  claims = map (distinguishes (x .left .graph) (x .right .graph) (x .bound)) (x .claims);
 }
 
 -- As the row has them.
@@ -124,7 +133,7 @@ claimed x = record { pairs = x .pairs; claims = map (λ q. true) (x .claims) }
 
 -- Every row holds.
 pub as-claimed : map computed rows ≡ map claimed rows
-unfolding rows leftA rightA one chain loop two fork settled rounds round table zigs zags oneLink twoPaths comparisons met follow any every list out has paths onward end compared reach holds
+unfolding rows leftA rightA one chain loop two fork settled rounds round table zigs zags oneLink twoPaths comparisons met follow any every list out has paths onward end compared reach holds len ml depth
 as-claimed = refl
 
 at-each : {A : Type 0} (f g : Row → A) (xs : List Row) → map f xs ≡ map g xs → (x : Row) → List·Memᴰ x xs → f x ≡ g x

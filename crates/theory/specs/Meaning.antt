@@ -1,5 +1,5 @@
 -- What path and node expressions mean (source 000, figure 3, in its order, with `disj`), as tests.
--- `Figure3` proves that each test says its line of the figure.
+-- `Figure3Laws` proves that each test says its line of the figure.
 use mathlib.Core.Bool.{Bool, not, _&&_, _||_}
 use Prim.Native.Nat.{ℕ}
 use lib.Dec.{eqb}

@@ -1,21 +1,17 @@
--- From expressions that describe the nodes: an expression that distinguishes a from b, where the pair (a, b) owes something.
-use mathlib.Core.Bool.{true, false, not, _&&_}
+-- What distinguishes two nodes, what describes a node, and why a pair fails: the notions between clauses and expressions.
+use mathlib.Core.Bool.{true, false, _&&_}
 use mathlib.Core.List.{[], _∷_}
-use mathlib.Core.Path.{_≡_, refl, ap}
-use Prim.Native.Nat.{ℕ, suc, _<_, _≤_}
-use native.Mathlib.Omega.{arith}
+use mathlib.Core.Path.{_≡_}
+use Prim.Native.Nat.{ℕ, _<_, _≤_}
 use lib.ListN.{length}
 use Rattle.theory.specs.Search.{any}
-use Rattle.theory.specs.Graph.{Comparison, Graph, WellFormed, linked}
-use Rattle.theory.specs.Expression.{PathExpr, NodeExpr, stay, step, test, seq, neg, exists, compare, PositivePath, Positive}
-use Rattle.theory.specs.Meaning.{reach, holds}
-use Rattle.theory.specs.Bound.{len, WithinPath, Within, testDepth, depth}
+use Rattle.theory.specs.Graph.{Comparison, Graph, linked}
+use Rattle.theory.specs.Expression.{PathExpr, NodeExpr, stay, step, test, seq, exists, compare}
+use Rattle.theory.specs.Meaning.{holds}
+use Rattle.theory.specs.Bound.{Within, depth}
 use Rattle.theory.specs.Path.{Hop, Path, Walk, end}
-use Rattle.theory.specs.Bisimulation.{Relation, Sides, oneSided, twoSided, Spoken}
-use Rattle.theory.specs.Rounds.{follow, met}
-use Rattle.theory.specs.Tests.{facts, test-fails}
-use Rattle.theory.specs.Walks.{linked-inside}
-use Rattle.theory.specs.Clauses.{apart}
+use Rattle.theory.specs.Bisimulation.{Relation, Sides, Spoken}
+use Rattle.theory.specs.Rounds.{met}
 
 -- The expression distinguishes a from b (01: parts them): within the bound c, at most d deep, true at a in l and false at b in r.
 pub record Parts (s : Sides) (l r : Graph) (c d a b : ℕ) (q : NodeExpr) : Type 0 where
@@ -24,6 +20,13 @@ pub record Parts (s : Sides) (l r : Graph) (c d a b : ℕ) (q : NodeExpr) : Type
   pub shallow : depth q ≤ d
   pub left : holds l q a ≡ true
   pub right : holds r q b ≡ false
+
+-- The expression tells a from b, and none of less depth does: within the bound, true at a in the left graph, false at b in the right.
+pub record Simplest (l r : Graph) (c a b : ℕ) (q : NodeExpr) : Type 0 where
+  pub within : Within c q
+  pub left : holds l q a ≡ true
+  pub right : holds r q b ≡ false
+  pub least : (p : NodeExpr) → Within c p → depth p < depth q → holds l p a ≡ holds r p b
 
 -- The expression describes x among some nodes of r: within the bound c, at most d deep, true at x in l, and of those nodes only at such as z relates to x.
 pub record Describes (s : Sides) (l r : Graph) (c d : ℕ) (z : Relation) (x : ℕ) (among : ℕ → Type 0) (q : NodeExpr) : Type 0 where
@@ -46,7 +49,7 @@ unfoldable pub pathExpr : (ℕ → NodeExpr) → Path → PathExpr
 pathExpr chi [] = stay
 pathExpr chi (h ∷ p) = seq (step (h .label)) (seq (test (chi (h .to))) (pathExpr chi p))
 
--- Why a pair owes something: a link, or two paths and a comparison.
+-- Why the clauses of a pair fail from left to right: a link, or two paths and a comparison.
 pub data Reason : Type 0 where
   byLink : Hop → Reason
   byPaths : Comparison → Path → Path → Reason
@@ -65,96 +68,12 @@ pub record PathsFail (l r : Graph) (c : ℕ) (z : Relation) (a b : ℕ) (t : Com
   pub ends : l .ends t (end a p) (end a q) ≡ true
   pub missing : met r z b t p q ≡ false
 
--- The pair owes what the reason says.
+-- The reason is one, for the pair (a, b).
 abbrev pub Fails : Graph → Graph → ℕ → Relation → ℕ → ℕ → Reason → Type 0
 Fails l r c z a b (byLink h) = LinkFails l r z a b h
 Fails l r c z a b (byPaths t p q) = PathsFail l r c z a b t p q
 
--- The expression that puts the reason.
+-- The expression that a reason gives: "there is a way" along the link, or the comparison of the two ways.
 unfoldable pub asked : (ℕ → NodeExpr) → Reason → NodeExpr
 asked chi (byLink h) = exists (pathExpr chi (h ∷ []))
 asked chi (byPaths t p q) = compare t (pathExpr chi p) (pathExpr chi q)
-
-module _ {s : Sides} {l r : Graph} {c d : ℕ} {z : Relation} {chi : ℕ → NodeExpr} (w : WellFormed l) (f : Described s l r c d z chi) where
-  path-len : (p : Path) → len (pathExpr chi p) ≡ length p
-  unfolding pathExpr len
-  path-len [] = refl
-  path-len (h ∷ p) = omega (arith, path-len p)
-
-  -- what describes the node that a hop of a path leads to
-  reached : (x : ℕ) (h : Hop) → linked l x (h .label) (h .to) ≡ true → Describes s l r c d z (h .to) (λ y. y < r .size) (chi (h .to))
-  reached x h e = f (h .to) (linked-inside w x (h .label) (h .to) e)
-
-  path-within : (p : Path) (x : ℕ) → Walk l x p → WithinPath c (pathExpr chi p)
-  unfolding pathExpr Within Walk
-  path-within [] x k = tt
-  path-within (h ∷ p) x (e, k) = (tt, (reached x h e .within, path-within p (h .to) k))
-
-  path-spoken : (p : Path) (x : ℕ) → Walk l x p → s ≡ oneSided → PositivePath (pathExpr chi p)
-  unfolding pathExpr Positive Walk
-  path-spoken [] x k i = tt
-  path-spoken (h ∷ p) x (e, k) i = (tt, (reached x h e .spoken i, path-spoken p (h .to) k i))
-
-  path-tests : (p : Path) (x : ℕ) → Walk l x p → testDepth (pathExpr chi p) ≤ d
-  unfolding pathExpr testDepth Walk
-  path-tests [] x k = omega arith
-  path-tests (h ∷ p) x (e, k) = omega (arith, reached x h e .shallow, path-tests p (h .to) k)
-
-  -- a path takes its own expression, and ends at a node
-  path-own : (p : Path) (x : ℕ) → x < l .size → Walk l x p → (end x p < l .size) × (reach l (pathExpr chi p) x (end x p) ≡ true)
-  unfolding pathExpr reach end Walk
-  path-own [] x o k = (o, simp facts refl)
-  path-own (h ∷ p) x o (e, k) =
-      let o′ = linked-inside w x (h .label) (h .to) e in
-      let (i, u) = path-own p (h .to) o′ k in
-      (i, simp facts (h .to, o′, (e, (h .to, o′, ((refl, reached x h e .own), u)))))
-
-  -- what takes the path's expression in r follows the path
-  path-only : (p : Path) (x b y : ℕ) → Walk l x p → reach r (pathExpr chi p) b y ≡ true → follow r z p b y ≡ true
-  unfolding pathExpr reach follow Walk
-  path-only [] x b y k h = h
-  path-only (h ∷ p) x b y (e, k) t =
-      let (m, o, (u, (m′, o′, ((i, t), v)))) = simp facts at t in
-      let j = reached x h e .only m o t in
-      simp facts (m, o, ((u, j), path-only p (h .to) m y k (rw (← i) at v)))
-
-  -- the expression that puts a reason distinguishes a from b, one deeper than what describes the nodes
-  pub parting : (why : Reason) (a b : ℕ) → a < l .size → Fails l r c z a b why → Parts s l r c (suc d) a b (asked chi why)
-  unfolding asked holds Within Positive depth met pathExpr reach
-  parting (byLink h) a b o g =
-      let y = h .to in
-      let e = g .there in
-      let i = linked-inside w a (h .label) y e in
-      let k = reached a h e in
-      record {
-        within = (tt, (k .within, tt));
-        spoken = λ q. (tt, (k .spoken q, tt));
-        shallow = omega arith;
-        left = simp facts (y, i, (y, i, (e, (y, i, ((refl, k .own), refl)))));
-        right = test-fails _ _ (λ h.
-            let (x, o, (m, o′, (u, (m′, o″, ((j, t), j′))))) = simp facts at h in
-            simp facts (m, o′, (u, k .only m o′ t))) (g .missing);
-      }
-  parting (byPaths t p q) a b o g =
-      let (i, u) = path-own p a o (g .walk) in
-      let (i′, u′) = path-own q a o (g .walk′) in
-      record {
-        within = (rw path-len (g .short), rw path-len (g .short′), path-within p a (g .walk), path-within q a (g .walk′));
-        spoken = λ e. (path-spoken p a (g .walk) e, path-spoken q a (g .walk′) e);
-        shallow = omega (arith, path-tests p a (g .walk), path-tests q a (g .walk′));
-        left = simp facts (end a p, i, (u, (end a q, i′, (u′, g .ends))));
-        right = test-fails _ _ (λ h.
-            let (x, k, (v, (y, k′, (v′, j)))) = simp facts at h in
-            simp facts (x, k, (path-only p a b x (g .walk) v, (y, k′, (path-only q a b y (g .walk′) v′, j))))) (g .missing);
-      }
-
--- What distinguishes b from a distinguishes a from b when it is denied.
-pub part-back : {s : Sides} {l r : Graph} {c d a b : ℕ} {q : NodeExpr} → s ≡ twoSided → Parts s r l c d b a q → Parts s l r c d a b (neg q)
-unfolding holds Within depth
-part-back e p = record {
-  within = p .within;
-  spoken = λ o. apart o e;
-  shallow = p .shallow;
-  left = ap not (p .right);
-  right = ap not (p .left);
-}

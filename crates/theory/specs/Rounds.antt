@@ -1,4 +1,4 @@
--- The greatest, computed: start from all pairs, and keep in each round those that owe nothing under the relation before.
+-- The greatest, computed: start from all pairs, and keep in each round those whose clauses hold under the relation before.
 use mathlib.Core.Bool.{Bool, true, false, not, _&&_, _||_}
 use mathlib.Core.List.{List, [], _∷_}
 use Prim.Native.Nat.{ℕ, zero, suc, _*_}
@@ -28,11 +28,11 @@ twoPaths l r c z a b =
 unfoldable pub oneLink : Graph → Graph → Relation → ℕ → ℕ → Bool
 oneLink l r z a b = every (out (l .links) a) (λ h. any (r .size) (λ b′. linked r b (h .label) b′ && z (h .to) b′))
 
--- (a, b) owes nothing from left to right
+-- the clauses for (a, b) from left to right
 unfoldable pub zigs : Graph → Graph → ℕ → Relation → ℕ → ℕ → Bool
 zigs l r c z a b = oneLink l r z a b && twoPaths l r c z a b
 
--- (a, b) owes nothing from right to left, where that side counts
+-- the clauses from right to left, where that side counts
 unfoldable pub zags : Sides → Graph → Graph → ℕ → Relation → ℕ → ℕ → Bool
 zags oneSided l r c z a b = true
 zags twoSided l r c z a b = zigs r l c (flip z) b a

@@ -1,7 +1,9 @@
--- What the theory proves of two graphs whose links stay among their nodes, at any bound c: open this file first.
--- The steps to it: `Invariance` (related nodes keep what expressions say), `Clauses` (the Boolean clauses are the clauses), `Greatest` (the rounds
--- settle to the greatest), `Parting` (from a clause that fails to an expression), `Describing` (what a round drops, an expression of its depth tells apart).
--- What makes a search shorter: `Rows` (rows of a round are equal or disjoint), `Classes` (which paths are enough for the clause for two paths).
+-- What the theory proves of two graphs whose links stay among their nodes, at any bound c.
+-- The steps to it, each file beginning with its argument: `InvarianceLaws` (related nodes keep what expressions say), `ClauseLaws` (the Boolean clauses
+-- are the clauses), `GreatestLaws` (the rounds settle to the greatest), `PartingLaws` (from a clause that fails to an expression), `DescribingLaws`
+-- (what a round drops, an expression of its depth tells apart).
+-- What a search rests on: `ChoosingLaws` (the reason that comes first), `RowLaws` (rows of a round are equal or disjoint), `CoveringLaws` (which paths
+-- are enough for the clause for two paths).
 use mathlib.Core.Bool.{true, false}
 use mathlib.Core.Logic.{_↔_}
 use mathlib.Core.Path.{_≡_}
@@ -11,24 +13,29 @@ use Rattle.theory.specs.Graph.{Graph, WellFormed}
 use Rattle.theory.specs.Expression.{NodeExpr}
 use Rattle.theory.specs.Meaning.{holds}
 use Rattle.theory.specs.Bound.{Within, depth}
-use Rattle.theory.specs.Bisimulation.{twoSided, Greatest}
+use Rattle.theory.specs.Bisimulation.{Pairs, pairs, twoSided, Bisimulation, Greatest}
 use Rattle.theory.specs.Rounds.{matched}
-use Rattle.theory.specs.Greatest.{greatest}
-use Rattle.theory.specs.Family.{rounds-family}
-use Rattle.theory.specs.Invariance.{agrees}
-use Rattle.theory.specs.Describing.{agree-iff, dropped}
-
--- The expression tells a from b, and none of less depth does: within the bound, true at a in the left graph, false at b in the right.
-pub record Simplest (l r : Graph) (c a b : ℕ) (q : NodeExpr) : Type 0 where
-  pub within : Within c q
-  pub left : holds l q a ≡ true
-  pub right : holds r q b ≡ false
-  pub least : (p : NodeExpr) → Within c p → depth p < depth q → holds l p a ≡ holds r p b
+use Rattle.theory.specs.Parting.{Simplest}
+use Rattle.theory.specs.GreatestLaws.{greatest}
+use Rattle.theory.specs.FamilyLaws.{rounds-family}
+use Rattle.theory.specs.InvarianceLaws.{agrees}
+use Rattle.theory.specs.DescribingLaws.{agree-iff, dropped}
 
 module _ {l r : Graph} (c : ℕ) (wl : WellFormed l) (wr : WellFormed r) where
-  -- Demand 2: the matched pairs are the greatest bisimulation for the bound. They form one, and every other lies within.
+  -- Demand 2: the matched pairs are the greatest bisimulation for the bound. They form one, and every other lies within, computed or not.
   pub matched-greatest : Greatest twoSided l r c (matched l r c)
   matched-greatest = greatest twoSided c wl wr
+
+  -- "The greatest is the union of all": a pair is matched exactly when some bisimulation holds it.
+  pub matched-union : (a b : ℕ) → (matched l r c a b ≡ true) ↔ ((y : Pairs) × Bisimulation l r c y × y a b)
+  matched-union a b = (λ e. (pairs (matched l r c), matched-greatest .is, e), λ (y, m, e). matched-greatest .most y m a b e)
+
+  -- "The empty relation is one."
+  pub empty-is : Bisimulation l r c (λ a b. ⊥)
+  empty-is = record {
+    forth = record { left = λ a b e. absurd e; right = λ a b e. absurd e; zig = λ a b e. absurd e };
+    back = record { left = λ a b e. absurd e; right = λ a b e. absurd e; zig = λ a b e. absurd e };
+  }
 
   module _ (a b : ℕ) (left : a < l .size) (right : b < r .size) where
     -- Demand 3: a pair is matched exactly when every node expression within the bound, of any size, has one truth at both nodes;

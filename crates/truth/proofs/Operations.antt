@@ -1,4 +1,4 @@
--- What each way out of Truth and Claim shows of their answers and of the words. Assumes nothing.
+-- What each way out of Truth and Claim shows of their answers and of the words.
 use mathlib.Core.Bool.{Bool, true, false, cond, not, _&&_, _||_, or-true, false≢true}
 use mathlib.Core.Path.{_≡_, refl, sym, ap, _∙_}
 use mathlib.Core.List.{List}
@@ -14,19 +14,20 @@ use Rattle.words.specs.Laws.{bit-wordOf-lt}
 use Rattle.outcome.specs.Outcome.{code}
 use Rattle.book.specs.Book.{cellsOf, linksOf, bookRefusal}
 use Rattle.book.specs.BookGraph.{graphOf}
-use Rattle.book.specs.Accepted.{book-sizes, book-graph}
+use Rattle.book.specs.AcceptedLaws.{book-sizes, book-graph}
 use Rattle.sheet.specs.Sheet.{countOf, questionOf, sheetRefusal, sheetAnswer}
-use Rattle.sheet.specs.Passed.{accepted-head}
-use Rattle.sheet.specs.Accepted.{answer-accepting, answer-refusing}
+use Rattle.sheet.specs.PassedLaws.{accepted-head}
+use Rattle.sheet.specs.AcceptedLaws.{answer-accepting, answer-refusing}
 use Rattle.sheet.specs.declared.SheetAnswer.{SheetAnswer}
 use Rattle.sheet.specs.declared.SheetAnswer.the-variants.{Accepted, Refused}
 use Rattle.edges.specs.Edges.{Held, Rows}
 use Rattle.edges.specs.BookEdges.{Loaded, passing}
 use Rattle.edges.specs.BookLaws.{passing-rows}
 use Rattle.sheet.specs.Known.{EntriesFit}
-use Rattle.evaluate.specs.Evaluation.{questionWord, tables, rowsFor, evaluated, TablesOf}
-use Rattle.evaluate.specs.Evaluated.{words-evaluated}
-use Rattle.evaluate.specs.Writing.{over-at, over-length, over-over}
+use Rattle.evaluate.specs.QuestionWord.{questionWord}
+use Rattle.evaluate.specs.Evaluation.{tables, rowsFor, evaluated, TablesOf}
+use Rattle.evaluate.specs.EvaluatedLaws.{words-evaluated}
+use Rattle.evaluate.specs.WritingLaws.{over-at, over-over}
 use Rattle.truth.specs.declared.TruthAnswer.{TruthAnswer}
 use Rattle.truth.specs.declared.TruthAnswer.the-variants as told
 use Rattle.truth.specs.declared.ClaimAnswer.{ClaimAnswer}
@@ -142,10 +143,6 @@ module _ (l r s ws : List ℕ) (q k : ℕ) (o : Entered l r s q k (length ws)) w
       record { good = o .room .good; entries = omega arith; places = omega arith }
 
   module _ (i j : ℕ) (ws₁ : List ℕ) (here : Bool) (x : Told (holds (graphOf l) (questionOf s k) i) (firstWords l s (k + 1) ws) here ws₁) where
-    pub room-right : EntriesFit s q (length ws₁)
-    unfolding firstWords
-    room-right = rw (x .words, over-length (k + 1) (questionWord (graphOf l) s) ws (room-left .places)) (o .room)
-
     module _ (ws₂ : List ℕ) (there : Bool) (y : Told (holds (graphOf r) (questionOf s k) j) (firstWords r s q ws₁) there ws₂) where
       words-right : ws₂ ≡ truthWords r s ws
       unfolding firstWords
@@ -207,10 +204,6 @@ module _ (l r s ws : List ℕ) (k i j : ℕ) where
       pub claim-entry : q ≤ k → IsClaim l r s k i j ws claimed.NoEntry ws
       unfolding leftByClaim
       claim-entry e = claim-told claimed.NoEntry ws (judged-claim ∙ rw (le-ltb (length ws) q h, le-leb q k e)) refl
-
-      pub claim-entered : k < q → Entered l r s q k (length ws)
-      claim-entered e =
-          record { left = u; right = v; room = record { good = w; entries = omega arith; places = h }; all = c; entry = e }
 
   module _ (q : ℕ) (o : Entered l r s q k (length ws)) where
     -- what is left to judge

@@ -1,2 +1,3 @@
 pub mod Truth
 pub mod Entered
+pub mod OutcomeLaws

@@ -11,7 +11,7 @@ use Rattle.outcome.specs.Outcome.{Outcome, accepted, refused, ofCall, ofLeftBoo
 use Rattle.book.specs.Book.{cellsOf, bookRefusal}
 use Rattle.book.specs.BookGraph.{graphOf}
 use Rattle.sheet.specs.Sheet.{countOf, questionOf, sheetRefusal}
-use Rattle.evaluate.specs.Evaluation.{truthWord}
+use Rattle.evaluate.specs.QuestionWord.{truthWord}
 use Rattle.truth.specs.declared.TruthAnswer.{TruthAnswer}
 use Rattle.truth.specs.declared.TruthAnswer.the-variants as told
 use Rattle.truth.specs.declared.ClaimAnswer.{ClaimAnswer}

@@ -95,33 +95,35 @@ fn true_at(
     book: &[u8],
     sheet: &[u8],
     upto: usize,
-    entry: usize,
+    entry: Question,
     cell: u8,
     words: &mut [u64],
 ) -> bool
-    requires { ⌜ (bookRefusal (now book) ≡ 0) × EntriesFit (now sheet) upto (length (now words)) × (entry < upto) × (cell < cellsOf (now book)) ⌝ }
-    ensures { λ r. ⌜ Told (holds (graphOf (now (book .entry))) (questionOf (now (sheet .entry)) entry) cell) (firstWords (now (book .entry)) (now (sheet .entry)) upto (now (words .entry))) r (now (words .exit)) ⌝ }
+    requires { ⌜ (bookRefusal (now book) ≡ 0) × EntriesFit (now sheet) upto (length (now words)) × (entry .0 < upto) × (cell < cellsOf (now book)) ⌝ }
+    ensures { λ r. ⌜ Told (holds (graphOf (now (book .entry))) (questionOf (now (sheet .entry)) (entry .0)) cell) (firstWords (now (book .entry)) (now (sheet .entry)) upto (now (words .entry))) r (now (words .exit)) ⌝ }
 {
     write_words(book, sheet, upto, words);
-    words::has(words[entry], cell)
+    let k = entry.0 as usize;
+    words::has(words[k], cell)
 }
 
-// Whether the entry is true at the left and false at the right cell.
+// Whether the entry is true at the left and false at the right cell. Here each cell meets its own book.
 fn asked(
     left: &[u8],
     right: &[u8],
     sheet: &[u8],
     q: usize,
-    entry: usize,
-    cell: u8,
-    other: u8,
+    entry: Question,
+    cell: LeftCell,
+    other: RightCell,
     words: &mut [u64],
 ) -> bool
-    requires { ⌜ Entered (now left) (now right) (now sheet) q entry (length (now words)) × (cell < cellsOf (now left)) × (other < cellsOf (now right)) ⌝ }
-    ensures { λ r. ⌜ Told (parts (now (left .entry)) (now (right .entry)) (now (sheet .entry)) entry cell other) (truthWords (now (right .entry)) (now (sheet .entry)) (now (words .entry))) r (now (words .exit)) ⌝ }
+    requires { ⌜ Entered (now left) (now right) (now sheet) q (entry .0) (length (now words)) × (cell .0 < cellsOf (now left)) × (other .0 < cellsOf (now right)) ⌝ }
+    ensures { λ r. ⌜ Told (parts (now (left .entry)) (now (right .entry)) (now (sheet .entry)) (entry .0) (cell .0) (other .0)) (truthWords (now (right .entry)) (now (sheet .entry)) (now (words .entry))) r (now (words .exit)) ⌝ }
 {
-    let here = true_at(left, sheet, entry + 1, entry, cell, words);
-    let there = true_at(right, sheet, q, entry, other, words);
+    let k = entry.0 as usize;
+    let here = true_at(left, sheet, k + 1, entry, cell.0, words);
+    let there = true_at(right, sheet, q, entry, other.0, words);
     if here {
         return !there;
     }
@@ -134,18 +136,18 @@ fn entered_claim(
     right: &[u8],
     sheet: &[u8],
     q: usize,
-    entry: usize,
-    cell: u8,
-    other: u8,
+    entry: Question,
+    cell: LeftCell,
+    other: RightCell,
     words: &mut [u64],
 ) -> ClaimAnswer
-    requires { ⌜ Entered (now left) (now right) (now sheet) q entry (length (now words)) ⌝ }
-    ensures { λ r. ⌜ IsClaim (now (left .entry)) (now (right .entry)) (now (sheet .entry)) entry cell other (now (words .entry)) r (now (words .exit)) ⌝ }
+    requires { ⌜ Entered (now left) (now right) (now sheet) q (entry .0) (length (now words)) ⌝ }
+    ensures { λ r. ⌜ IsClaim (now (left .entry)) (now (right .entry)) (now (sheet .entry)) (entry .0) (cell .0) (other .0) (now (words .entry)) r (now (words .exit)) ⌝ }
 {
-    if !book::has_cell(left, cell as usize) {
+    if !book::has_left(left, cell) {
         return ClaimAnswer::NoCell;
     }
-    if !book::has_cell(right, other as usize) {
+    if !book::has_right(right, other) {
         return ClaimAnswer::NoCell;
     }
     if asked(left, right, sheet, q, entry, cell, other, words) {
@@ -160,22 +162,22 @@ fn accepted_claim(
     right: &[u8],
     sheet: &[u8],
     q: usize,
-    entry: u16,
-    cell: u8,
-    other: u8,
+    entry: Question,
+    cell: LeftCell,
+    other: RightCell,
     words: &mut [u64],
 ) -> ClaimAnswer
     requires { ⌜ (bookRefusal (now left) ≡ 0) × (bookRefusal (now right) ≡ 0) × (sheetRefusal (now sheet) ≡ 0) × (q ≡ countOf (now sheet)) ⌝ }
-    ensures { λ r. ⌜ IsClaim (now (left .entry)) (now (right .entry)) (now (sheet .entry)) entry cell other (now (words .entry)) r (now (words .exit)) ⌝ }
+    ensures { λ r. ⌜ IsClaim (now (left .entry)) (now (right .entry)) (now (sheet .entry)) (entry .0) (cell .0) (other .0) (now (words .entry)) r (now (words .exit)) ⌝ }
 {
     if words.len() < q {
         return ClaimAnswer::FewWords;
     }
-    let k = entry as usize;
+    let k = entry.0 as usize;
     if q <= k {
         return ClaimAnswer::NoEntry;
     }
-    entered_claim(left, right, sheet, q, k, cell, other, words)
+    entered_claim(left, right, sheet, q, entry, cell, other, words)
 }
 
 // Claim: whether the question of the entry is true at the left cell and false at the right cell, whoever wrote the sheet. The words
@@ -209,9 +211,9 @@ pub fn claim(
                 right,
                 sheet,
                 entries as usize,
-                entry.0,
-                cell.0,
-                other.0,
+                entry,
+                cell,
+                other,
                 words,
             )
         }

@@ -1,4 +1,4 @@
--- A 1 that is shifted to a cell's place, as the machine has it: `only` and `full` make it. Assumes nothing.
+-- A 1 that is shifted to a cell's place, as the machine has it: `only` and `full` make it.
 use mathlib.Core.Path.{_≡_}
 use Prim.Native.Nat.{ℕ, _-_, _*_, _%_, _^_, _≤_, _<_}
 use native.Mathlib.Nat.{one-mul, mod-eq-of-lt}

@@ -1,10 +1,9 @@
 -- The laws of a word's bits, each stated once: the operations, extensionality, the word of a test, the count, the lowest bit, and a cell taken away.
--- Assumes nothing.
 use mathlib.Core.Path.{_≡_, refl, sym, ap, ap₂, _∙_}
-use mathlib.Core.Bool.{Bool, true, false, false≢true, cond, _&&_, _||_, not, xor, and-true, and-false}
+use mathlib.Core.Bool.{Bool, true, false, false≢true, cond, _&&_, _||_, not, xor, and-false}
 use mathlib.Core.Logic.{_↔_, ⊎-elim}
 use Prim.Native.Nat.{ℕ, zero, suc, _+_, _-_, _*_, _/_, _%_, _^_, _≤_, _<_, suc-le-suc}
-use native.Mathlib.Nat.{mod-lt, div-one, zero-div, pow-suc, zero-lt-suc, lt-of-le-of-lt, lt-of-lt-of-le, div-eq-of-lt, one-mul, zero-add, eq-or-lt-of-le, pos-of-ne-zero}
+use native.Mathlib.Nat.{mod-lt, div-one, zero-div, pow-suc, zero-lt-suc, lt-of-le-of-lt, one-mul, zero-add, eq-or-lt-of-le, pos-of-ne-zero}
 use native.Mathlib.Numerals.{one-add}
 use native.Mathlib.Omega.{arith}
 use native.Mathlib.Decide.{decLt}
@@ -13,7 +12,7 @@ use lib.Arith.{lt-one}
 use lib.Bits.{bitAnd, bitOr, bitXor, and-shr, or-shr, xor-shr, and-mod, or-mod, xor-mod, xor-add-and, and-comm, and-lt, or-lt, xor-lt, and-le-l, or-shifted-r}
 use lib.Count.{ones, ones-step, trailingZeros, under}
 use lib.Dec.{eqb, ltb, eqb·zero-suc, eqb·suc-zero, eqb·suc-suc, leb·zero, leb·suc-zero, leb·suc-suc, lit<}
-use lib.Pow.{shr-shr, pow-pos, pow-mono, pow-lt}
+use lib.Pow.{shr-shr, pow-pos, pow-lt}
 use Rattle.words.specs.Words.{digit, bit, tally, first, wordOf, Inside}
 
 -- ---- digits
@@ -61,11 +60,6 @@ word-ext (suc k) a b p q f =
     let h : a / 2 ≡ b / 2 = word-ext k (a / 2) (b / 2) (half-lt a k p) (half-lt b k q) (λ i l. sym (bit-at-suc a i) ∙ f (suc i) (suc-le-suc l) ∙ bit-at-suc b i) in
     let d : a % 2 ≡ b % 2 = low-digit a ∙ ap digit (f 0 (zero-lt-suc k)) ∙ sym (low-digit b) in
     omega arith
-
--- the bits from k on of a word of k bits
-pub bit-high : (k w i : ℕ) → w < 2 ^ k → k ≤ i → bit w i ≡ false
-unfolding bit
-bit-high k w i h l = ap (λ (x : ℕ). eqb (x % 2) 1) (div-eq-of-lt (lt-of-lt-of-le h (pow-mono l)))
 
 -- ---- the empty set and the set of one cell
 pub bit-zero : (i : ℕ) → bit 0 i ≡ false
@@ -189,10 +183,6 @@ bit-wordOf-lt n p i l = bit-wordOf n p i ∙ ap (λ (b : Bool). b && p i) (lt-lt
 pub wordOf-is : (n w : ℕ) (p : ℕ → Bool) → w < 2 ^ n → ((i : ℕ) → i < n → bit w i ≡ p i) → w ≡ wordOf n p
 wordOf-is n w p h f = word-ext n w (wordOf n p) h (wordOf-lt n p) (λ i l. f i l ∙ sym (bit-wordOf-lt n p i l))
 
--- a word is the word of its own bits
-pub wordOf-bits : (n w : ℕ) → w < 2 ^ n → w ≡ wordOf n (bit w)
-wordOf-bits n w h = wordOf-is n w (bit w) h (λ i l. refl)
-
 op-wordOf : {op : ℕ → ℕ → ℕ} {on : Bool → Bool → Bool} → Bitwise op on → (n : ℕ) (p q : ℕ → Bool) → op (wordOf n p) (wordOf n q) ≡ wordOf n (λ i. on (p i) (q i))
 op-wordOf {op} {on} f n p q =
     wordOf-is n (op (wordOf n p) (wordOf n q)) (λ i. on (p i) (q i)) (f .small n (wordOf n p) (wordOf n q) (wordOf-lt n p) (wordOf-lt n q))
@@ -226,9 +216,6 @@ pub full-wordOf : (n : ℕ) → 2 ^ n - 1 ≡ wordOf n (λ i. true)
 unfolding wordOf
 full-wordOf zero = refl
 full-wordOf (suc n) = let e = pow-suc 2 n in let l = pow-pos n in omega (arith, full-wordOf n)
-
-pub bit-full : (n i : ℕ) → bit (2 ^ n - 1) i ≡ ltb i n
-bit-full n i = ap (λ (w : ℕ). bit w i) (full-wordOf n) ∙ bit-wordOf n (λ i. true) i ∙ and-true (ltb i n)
 
 -- ---- no cell, and no common cell
 pub zero-iff : (k w : ℕ) → w < 2 ^ k → (w ≡ 0) ↔ ((i : ℕ) → i < k → bit w i ≡ false)

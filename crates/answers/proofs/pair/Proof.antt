@@ -1,4 +1,4 @@
--- `answers::pair` meets its contract. Assumes nothing.
+-- `answers::pair` meets its contract.
 use borrow.Author.Needs.{needs}
 use Rattle.answers.proofs.PairExits.{checked-good, checked-count, checked-refused}
 use Rattle.answers.proofs.pair.Statement.{statement}

@@ -1,4 +1,4 @@
--- `answers::pair_code` meets its contract. Assumes nothing.
+-- `answers::pair_code` meets its contract.
 use borrow.Author.Needs.{needs}
 use Rattle.outcome.specs.Outcome.{code}
 use Rattle.answers.specs.Pair.{pairOutcome}

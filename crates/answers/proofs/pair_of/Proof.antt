@@ -1,4 +1,4 @@
--- `answers::pair_of` meets its contract. Assumes nothing.
+-- `answers::pair_of` meets its contract.
 use borrow.Author.Needs.{needs}
 use Rattle.answers.proofs.PairExits.{pair-outside, pair-matched, pair-unknown, pair-known}
 use Rattle.answers.proofs.pair_of.Statement.{statement}

@@ -1,4 +1,4 @@
--- `answers::place_of` meets its contract. Assumes nothing.
+-- `answers::place_of` meets its contract.
 use borrow.Author.Needs.{needs}
 use Rattle.answers.proofs.PairExits.{place-matched, place-parted}
 use Rattle.answers.proofs.place_of.Statement.{statement}

@@ -1,4 +1,4 @@
--- `answers::row` meets its contract. Assumes nothing.
+-- `answers::row` meets its contract.
 use borrow.Author.Needs.{needs}
 use Rattle.answers.proofs.RowExits.{row-refused, row-few, row-ends, row-starts, row-counted}
 use Rattle.answers.proofs.row.Statement.{statement}

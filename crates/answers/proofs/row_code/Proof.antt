@@ -1,4 +1,4 @@
--- `answers::row_code` meets its contract. Assumes nothing.
+-- `answers::row_code` meets its contract.
 use borrow.Author.Needs.{needs}
 use lib.Dec.{lit<}
 use Rattle.outcome.specs.Outcome.{code}

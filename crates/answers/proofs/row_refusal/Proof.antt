@@ -1,4 +1,4 @@
--- `answers::row_refusal` meets its contract. Assumes nothing.
+-- `answers::row_refusal` meets its contract.
 use borrow.Author.Needs.{needs}
 use Rattle.answers.proofs.RowExits.{row-none, row-many, row-outside, row-inside}
 use Rattle.answers.proofs.row_refusal.Statement.{statement}

@@ -1,4 +1,4 @@
--- `answers::row_word` meets its contract. Assumes nothing.
+-- `answers::row_word` meets its contract.
 use borrow.Author.Needs.{needs}
 use Rattle.answers.specs.Row.{wordIn}
 use Rattle.answers.proofs.Told.{told}

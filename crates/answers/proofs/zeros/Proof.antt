@@ -1,4 +1,4 @@
--- `answers::zeros` meets its contract. Assumes nothing.
+-- `answers::zeros` meets its contract.
 use mathlib.Core.Logic.{⊎-elim}
 use mathlib.Core.Path.{_≡_, refl}
 use Prim.Native.Nat.{_-_, _≤_, _<_, _^_}

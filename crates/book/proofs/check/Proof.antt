@@ -1,4 +1,4 @@
--- `book::check` meets its contract. Assumes nothing.
+-- `book::check` meets its contract.
 use borrow.Author.Needs.{needs}
 use Rattle.book.proofs.Laws.{book-reach, check-refused, check-accepted}
 use Rattle.book.proofs.check.Statement.{statement}

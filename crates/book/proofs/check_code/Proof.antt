@@ -1,4 +1,4 @@
--- `book::check_code` meets its contract. Assumes nothing.
+-- `book::check_code` meets its contract.
 use borrow.Author.Needs.{needs}
 use Rattle.book.proofs.Laws.{told-counts, told-refused}
 use Rattle.book.proofs.check_code.Statement.{statement}

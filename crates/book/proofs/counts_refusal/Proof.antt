@@ -1,4 +1,4 @@
--- `book::counts_refusal` meets its contract. Assumes nothing.
+-- `book::counts_refusal` meets its contract.
 use borrow.Author.Needs.{needs}
 use Rattle.book.proofs.Laws.{counts-none, counts-many, counts-links, counts-formula, counts-pass}
 use Rattle.book.proofs.counts_refusal.Statement.{statement}

@@ -1,4 +1,4 @@
--- `book::differ` meets its contract. Assumes nothing.
+-- `book::differ` meets its contract.
 use borrow.Author.Needs.{needs}
 use Rattle.theory.specs.Graph.{compared}
 use Rattle.book.proofs.differ.Statement.{statement}

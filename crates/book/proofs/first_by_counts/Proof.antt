@@ -1,4 +1,4 @@
--- `book::first_by_counts` meets its contract. Assumes nothing.
+-- `book::first_by_counts` meets its contract.
 use Prim.Native.Nat.{_-_, _≤_}
 use borrow.Author.Needs.{needs}
 use native.Mathlib.Omega.{arith}

@@ -1,7 +1,7 @@
--- `book::first_link` meets its contract. Assumes nothing.
+-- `book::first_link` meets its contract.
 use borrow.Author.Needs.{needs}
 use native.Mathlib.Omega.{arith}
-use Rattle.book.specs.Accepted.{book-long}
+use Rattle.book.specs.AcceptedLaws.{book-long}
 use Rattle.book.proofs.Laws.{links-room, first-among}
 use Rattle.book.proofs.first_link.Statement.{statement}
 use Rattle.book.proofs.first_link.Tie as tie

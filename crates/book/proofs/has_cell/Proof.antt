@@ -1,6 +1,6 @@
--- `book::has_cell` meets its contract. Assumes nothing.
+-- `book::has_cell` meets its contract.
 use Rattle.book.proofs.Laws.{cell-test}
-use Rattle.book.specs.Accepted.{book-long}
+use Rattle.book.specs.AcceptedLaws.{book-long}
 use Rattle.book.proofs.has_cell.Statement.{statement}
 use Rattle.book.proofs.has_cell.Tie as tie
 

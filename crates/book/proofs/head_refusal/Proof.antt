@@ -1,4 +1,4 @@
--- `book::head_refusal` meets its contract. Assumes nothing.
+-- `book::head_refusal` meets its contract.
 use borrow.Author.Needs.{needs}
 use Rattle.book.proofs.Laws.{head-short, head-whole, head-version, head-counts}
 use Rattle.book.proofs.head_refusal.Statement.{statement}

@@ -1,4 +1,4 @@
--- `book::label_width` meets its contract. Assumes nothing.
+-- `book::label_width` meets its contract.
 use borrow.Author.Needs.{needs}
 use Rattle.book.specs.Book.{labelWidth}
 use Rattle.book.proofs.label_width.Statement.{statement}

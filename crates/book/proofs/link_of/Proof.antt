@@ -1,6 +1,6 @@
--- `book::link_of` meets its contract. Assumes nothing.
+-- `book::link_of` meets its contract.
 use borrow.Author.Needs.{needs}
-use Rattle.book.specs.Accepted.{accepted-head}
+use Rattle.book.specs.AcceptedLaws.{accepted-head}
 use Rattle.book.proofs.link_of.Statement.{statement}
 use Rattle.book.proofs.link_of.Tie as tie
 

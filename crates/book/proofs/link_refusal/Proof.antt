@@ -1,4 +1,4 @@
--- `book::link_refusal` meets its contract. Assumes nothing.
+-- `book::link_refusal` meets its contract.
 use borrow.Author.Needs.{needs}
 use Rattle.book.proofs.Laws.{head-long, link-from, link-to, link-first, link-above, link-below}
 use Rattle.book.proofs.link_refusal.Statement.{statement}

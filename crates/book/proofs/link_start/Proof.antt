@@ -1,4 +1,4 @@
--- `book::link_start` meets its contract. Assumes nothing.
+-- `book::link_start` meets its contract.
 use borrow.Author.Needs.{needs}
 use native.Mathlib.Omega.{arith}
 use Rattle.book.proofs.Laws.{start-most, start-is, start-small}

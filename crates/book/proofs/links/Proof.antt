@@ -1,4 +1,4 @@
--- `book::links` meets its contract. Assumes nothing.
+-- `book::links` meets its contract.
 use borrow.Author.Needs.{needs}
 use native.Mathlib.Omega.{arith}
 use Rattle.book.proofs.Laws.{product-fits, part-end, part-bytes, part-book, part-cell}

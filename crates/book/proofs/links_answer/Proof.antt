@@ -1,4 +1,4 @@
--- `book::links_answer` meets its contract. Assumes nothing.
+-- `book::links_answer` meets its contract.
 use borrow.Author.Needs.{needs}
 use Rattle.book.proofs.Laws.{book-reach, book-none, book-refused, no-cell, cell-part, part-few}
 use Rattle.book.proofs.links_answer.Statement.{statement}

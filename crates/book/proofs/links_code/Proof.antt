@@ -1,4 +1,4 @@
--- `book::links_code` meets its contract. Assumes nothing.
+-- `book::links_code` meets its contract.
 use borrow.Author.Needs.{needs}
 use Rattle.book.proofs.Laws.{told-part, told-book, told-cell}
 use Rattle.book.proofs.links_code.Statement.{statement}

@@ -1,9 +1,9 @@
--- `book::links_range` meets its contract. Assumes nothing.
+-- `book::links_range` meets its contract.
 use Prim.Native.Nat.{_<_}
 use borrow.Author.Needs.{needs}
 use native.Mathlib.Omega.{arith}
 use Rattle.book.proofs.Laws.{range-out}
-use Rattle.book.specs.Accepted.{cell-few}
+use Rattle.book.specs.AcceptedLaws.{cell-few}
 use Rattle.book.proofs.links_range.Statement.{statement}
 use Rattle.book.proofs.links_range.Tie as tie
 

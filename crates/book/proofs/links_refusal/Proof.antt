@@ -1,4 +1,4 @@
--- `book::links_refusal` meets its contract. Assumes nothing.
+-- `book::links_refusal` meets its contract.
 use Prim.Native.Nat.{_-_, _≤_}
 use mathlib.Core.Path.{_≡_}
 use borrow.Author.Needs.{needs}

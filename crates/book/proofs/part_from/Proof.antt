@@ -1,4 +1,4 @@
--- `book::part_from` meets its contract. Assumes nothing.
+-- `book::part_from` meets its contract.
 use Rattle.book.proofs.Laws.{part-none, part-some}
 use borrow.Author.Needs.{needs}
 use Rattle.book.proofs.part_from.Statement.{statement}

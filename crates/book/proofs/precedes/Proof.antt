@@ -1,4 +1,4 @@
--- `book::precedes` meets its contract. Assumes nothing.
+-- `book::precedes` meets its contract.
 use Rattle.book.proofs.Laws.{test-from, test-label, test-to}
 use Rattle.book.proofs.precedes.Statement.{statement}
 use Rattle.book.proofs.precedes.Tie as tie

@@ -1,4 +1,4 @@
--- `book::read_link` meets its contract. Assumes nothing.
+-- `book::read_link` meets its contract.
 use borrow.Author.Needs.{needs}
 use Rattle.book.proofs.Laws.{head-long, head-few, from-room, label-room, to-room, link-read}
 use Rattle.book.proofs.read_link.Statement.{statement}

@@ -1,4 +1,4 @@
--- `book::recording_at` meets its contract. Assumes nothing.
+-- `book::recording_at` meets its contract.
 use borrow.Author.Needs.{needs}
 use Rattle.book.specs.Book.{recordingAt}
 use Rattle.book.proofs.recording_at.Statement.{statement}

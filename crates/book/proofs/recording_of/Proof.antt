@@ -1,4 +1,4 @@
--- `book::recording_of` meets its contract. Assumes nothing.
+-- `book::recording_of` meets its contract.
 use borrow.Author.Needs.{needs}
 use Rattle.book.proofs.Laws.{recording-room}
 use Rattle.book.proofs.recording_of.Statement.{statement}

@@ -1,4 +1,4 @@
--- `book::refusal_of` meets its contract. Assumes nothing.
+-- `book::refusal_of` meets its contract.
 use borrow.Author.Needs.{needs}
 use Rattle.book.proofs.Laws.{head-none, refusal-head, refusal-links}
 use Rattle.book.proofs.refusal_of.Statement.{statement}

@@ -1,4 +1,4 @@
--- `book::same` meets its contract. Assumes nothing.
+-- `book::same` meets its contract.
 use borrow.Author.Needs.{needs}
 use Rattle.theory.specs.Graph.{compared}
 use Rattle.book.proofs.same.Statement.{statement}

@@ -1,4 +1,4 @@
--- `compare::compare` meets its contract. Assumes nothing.
+-- `compare::compare` meets its contract.
 use borrow.Author.Needs.{needs}
 use Rattle.compare.proofs.Exits.{bound-above, left-refused, right-refused}
 use Rattle.compare.proofs.compare.Statement.{statement}

@@ -1,4 +1,4 @@
--- `compare::compare_code` meets its contract. Assumes nothing.
+-- `compare::compare_code` meets its contract.
 use borrow.Author.Needs.{needs}
 use Rattle.compare.proofs.Exits.{first-small, second-small, compare-coded}
 use Rattle.compare.proofs.compare_code.Statement.{statement}

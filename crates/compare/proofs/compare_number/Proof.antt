@@ -1,4 +1,4 @@
--- `compare::compare_number` meets its contract. Assumes nothing.
+-- `compare::compare_number` meets its contract.
 use borrow.Author.Needs.{needs}
 use Rattle.compare.proofs.Exits.{compare-number, sheet-bits, count-bits}
 use Rattle.compare.proofs.compare_number.Statement.{statement}

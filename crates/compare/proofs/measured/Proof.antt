@@ -1,7 +1,7 @@
--- `compare::measured` meets its contract. Assumes nothing.
+-- `compare::measured` meets its contract.
 use borrow.Author.Needs.{needs}
-use Rattle.book.specs.Accepted.{book-long}
-use Rattle.compare.proofs.Exits.{pairs-fit, bytes-fit, room-fits, map-length, few-room, few-scratch, all-lent, scratch-lent}
+use Rattle.book.specs.AcceptedLaws.{book-long}
+use Rattle.compare.proofs.Exits.{pairs-few, pairs-fit, map-length, few-room, few-scratch, all-lent, scratch-lent}
 use Rattle.compare.proofs.measured.Statement.{statement}
 use Rattle.compare.proofs.measured.Tie as tie
 
@@ -17,11 +17,8 @@ mul-pairs c = record { fits = search pairs-fit }
 returns : tie.Need-returns
 returns c = search map-length
 
-mul-if2 : tie.Need-mul-if2
-mul-if2 c = record { fits = search bytes-fit }
-
-add-if2 : tie.Need-add-if2
-add-if2 c = record { fits = search room-fits }
+room-needed-requires : tie.Need-room-needed-requires
+room-needed-requires c κs = search pairs-few
 
 returns-2 : tie.Need-returns-2
 returns-2 c = search few-room
@@ -34,12 +31,10 @@ returns-3 c = search few-scratch
 
 served-requires : tie.Need-served-requires
 served-requires c κs =
-    let tested = c .before .before .before in
-    let counted = tested .before .before .before in
-    let n = counted .before .cells-of .ensures .0 in
-    let m = counted .cells-of2 .ensures .0 in
-    let given = counted .before .before .before .before .before .before .before .pre in
-    (all-lent _ _ _ _ n m (given .0) (given .1) _ _ _ (given .2) (tested .before .before .if1 .left) (tested .before .if2 .left), scratch-lent _ _ _ _ n m _ (tested .if3 .left))
+    let given = c .before .before .before .before .before .before .before .before .before .before .before .before .before .before .pre in
+    let n = c .before .before .before .before .before .before .before .before .cells-of .ensures .0 in
+    let m = c .before .before .before .before .before .before .before .cells-of2 .ensures .0 in
+    (all-lent _ _ _ _ n m (given .0) (given .1) _ _ _ _ (c .before .before .before .before .before .room-needed .ensures) (given .2) (c .before .before .before .before .before .before .if1 .left) (c .before .before .before .before .if2 .left), scratch-lent _ _ _ _ n m _ (c .before .before .before .if3 .left))
 
 same-length : tie.Need-same-length
 same-length c = search needs
@@ -61,8 +56,7 @@ measured-spec =
     cells-of-requires-2
     mul-pairs
     returns
-    mul-if2
-    add-if2
+    room-needed-requires
     returns-2
     mul-if3
     returns-3

@@ -1,4 +1,4 @@
--- `compare::served` meets its contract. Assumes nothing.
+-- `compare::served` meets its contract.
 use borrow.Author.Needs.{needs}
 use Rattle.compare.proofs.Exits.{sheet-narrow, count-narrow, header-room, all-served}
 use Rattle.compare.proofs.served.Statement.{statement}

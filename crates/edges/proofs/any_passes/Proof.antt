@@ -1,4 +1,4 @@
--- `edges::any_passes` meets its contract. The invariant: what is left of the first set has the answer. Assumes nothing.
+-- `edges::any_passes` meets its contract. The invariant: what is left of the first set has the answer.
 use mathlib.Core.Path.{_≡_, refl}
 use Prim.Native.Nat.{_^_, _<_}
 use native.Mathlib.Omega.{arith}

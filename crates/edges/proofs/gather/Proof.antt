@@ -1,4 +1,4 @@
--- `edges::gather` meets its contract. The invariant is that of `image`, for rows. Assumes nothing.
+-- `edges::gather` meets its contract. The invariant is that of `image`, for rows.
 use mathlib.Core.Path.{_≡_}
 use mathlib.Core.Logic.{⊎-elim}
 use Prim.Native.Nat.{_-_, _≤_}

@@ -1,4 +1,4 @@
--- `edges::image` meets its contract. The invariant: the image of the links still to visit, onto what is found, is the answer. Assumes nothing.
+-- `edges::image` meets its contract. The invariant: the image of the links still to visit, onto what is found, is the answer.
 use mathlib.Core.Path.{_≡_}
 use mathlib.Core.Logic.{⊎-elim}
 use Prim.Native.Nat.{_-_, _≤_}

@@ -1,4 +1,4 @@
--- `edges::load` meets its contract. The invariant: the links passed are loaded. Assumes nothing.
+-- `edges::load` meets its contract. The invariant: the links passed are loaded.
 use Prim.Native.Nat.{_-_, _≤_}
 use native.Mathlib.Omega.{arith}
 use borrow.Author.Needs.{needs}

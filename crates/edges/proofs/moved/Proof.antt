@@ -1,4 +1,4 @@
--- `edges::moved` meets its contract. Assumes nothing.
+-- `edges::moved` meets its contract.
 use borrow.Author.Needs.{needs}
 use Rattle.edges.proofs.Laws.{moved-is}
 use Rattle.edges.proofs.moved.Statement.{statement}

@@ -1,4 +1,4 @@
--- `edges::passes` meets its contract. Assumes nothing.
+-- `edges::passes` meets its contract.
 use borrow.Author.Needs.{needs}
 use Rattle.edges.proofs.Books.{passes-same, passes-differ}
 use Rattle.edges.proofs.passes.Statement.{statement}

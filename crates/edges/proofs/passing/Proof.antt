@@ -1,4 +1,4 @@
--- `edges::passing` meets its contract. The invariant: the rows of the cells passed are made. Assumes nothing.
+-- `edges::passing` meets its contract. The invariant: the rows of the cells passed are made.
 use mathlib.Core.Path.{_≡_}
 use Prim.Native.Nat.{_-_, _≤_}
 use native.Mathlib.Omega.{arith}

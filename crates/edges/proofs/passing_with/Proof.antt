@@ -1,4 +1,4 @@
--- `edges::passing_with` meets its contract. The invariant: the word has the cells passed. Assumes nothing.
+-- `edges::passing_with` meets its contract. The invariant: the word has the cells passed.
 use mathlib.Core.Path.{_≡_}
 use mathlib.Core.Logic.{⊎-elim}
 use Prim.Native.Nat.{_-_, _≤_}

@@ -1,4 +1,4 @@
--- `evaluate::comparison_word` meets its contract. The invariant: `out` is the word of the nodes below x. Assumes nothing.
+-- `evaluate::comparison_word` meets its contract. The invariant: `out` is the word of the nodes below x.
 use mathlib.Core.Logic.{⊎-elim}
 use mathlib.Core.Path.{_≡_}
 use Prim.Native.Nat.{_≤_, _<_, _-_, _^_}

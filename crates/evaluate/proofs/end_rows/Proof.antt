@@ -1,4 +1,4 @@
--- `evaluate::end_rows` meets its contract. The invariant: the rows are those of the steps from `left` on. Assumes nothing.
+-- `evaluate::end_rows` meets its contract. The invariant: the rows are those of the steps from `left` on.
 use mathlib.Core.Path.{_≡_}
 use Prim.Native.Nat.{_≤_}
 use native.Mathlib.Omega.{arith}

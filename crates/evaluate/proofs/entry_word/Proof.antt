@@ -1,4 +1,4 @@
--- `evaluate::entry_word` meets its contract. A return for each kind. Assumes nothing.
+-- `evaluate::entry_word` meets its contract. A return for each kind.
 use borrow.Author.Needs.{needs}
 use Rattle.sheet.specs.KnownLaws.{first-known}
 use Rattle.evaluate.proofs.Laws.{entry-plain, entry-way, entry-same, entry-differ}

@@ -1,4 +1,4 @@
--- `evaluate::evaluate` meets its contract. The invariant: what is written from here on is what is written from the start on, and entry k starts at `at`. Assumes nothing.
+-- `evaluate::evaluate` meets its contract. The invariant: what is written from here on is what is written from the start on, and entry k starts at `at`.
 use mathlib.Core.Path.{_≡_}
 use Prim.Native.Nat.{_≤_, _-_}
 use native.Mathlib.Omega.{arith}

@@ -1,4 +1,4 @@
--- `evaluate::named_word` meets its contract. Assumes nothing.
+-- `evaluate::named_word` meets its contract.
 use borrow.Author.Needs.{needs}
 use Rattle.sheet.specs.KnownLaws.{number-known}
 use Rattle.evaluate.proofs.Laws.{read-at}

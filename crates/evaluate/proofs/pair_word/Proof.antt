@@ -1,4 +1,4 @@
--- `evaluate::pair_word` meets its contract. Assumes nothing.
+-- `evaluate::pair_word` meets its contract.
 use borrow.Author.Needs.{needs}
 use Rattle.sheet.specs.KnownLaws.{first-known, second-known}
 use Rattle.evaluate.proofs.Laws.{pair-returned}

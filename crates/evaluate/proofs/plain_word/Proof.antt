@@ -1,4 +1,4 @@
--- `evaluate::plain_word` meets its contract. A return for each kind. Assumes nothing.
+-- `evaluate::plain_word` meets its contract. A return for each kind.
 use borrow.Author.Needs.{needs}
 use Rattle.sheet.specs.KnownLaws.{first-number, second-number}
 use Rattle.evaluate.proofs.Laws.{plain-true, plain-not, plain-and, plain-or}

@@ -1,4 +1,4 @@
--- `evaluate::singles` meets its contract. The invariant: the first x rows are written. Assumes nothing.
+-- `evaluate::singles` meets its contract. The invariant: the first x rows are written.
 use mathlib.Core.Path.{_≡_, refl}
 use Prim.Native.Nat.{_≤_, _-_}
 use native.Mathlib.Omega.{arith}

@@ -1,4 +1,4 @@
--- `evaluate::tested_word` meets its contract. Assumes nothing.
+-- `evaluate::tested_word` meets its contract.
 use borrow.Author.Needs.{needs}
 use Rattle.sheet.specs.KnownLaws.{has-step, test-known}
 use Rattle.evaluate.proofs.Laws.{read-at}

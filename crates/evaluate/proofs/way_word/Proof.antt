@@ -1,4 +1,4 @@
--- `evaluate::way_word` meets its contract. The invariant: `out` is the word of the steps from `left` on. Assumes nothing.
+-- `evaluate::way_word` meets its contract. The invariant: `out` is the word of the steps from `left` on.
 use mathlib.Core.Path.{_≡_}
 use Prim.Native.Nat.{_≤_, _<_, _^_}
 use native.Mathlib.Omega.{arith}

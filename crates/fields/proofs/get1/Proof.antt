@@ -1,4 +1,4 @@
--- `fields::get1` meets its contract. Assumes nothing.
+-- `fields::get1` meets its contract.
 use native.Mathlib.Omega.{arith}
 use Rattle.fields.specs.Fields.{field}
 use borrow.Author.Needs.{needs}

@@ -1,4 +1,4 @@
--- `fields::get2` meets its contract: two fields of one byte side by side. Assumes nothing.
+-- `fields::get2` meets its contract: two fields of one byte side by side.
 use Rattle.fields.specs.Laws.{field-join}
 use borrow.Author.Needs.{needs}
 use Rattle.fields.proofs.get2.Statement.{statement}

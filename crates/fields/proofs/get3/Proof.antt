@@ -1,4 +1,4 @@
--- `fields::get3` meets its contract: fields of two bytes and of one side by side. Assumes nothing.
+-- `fields::get3` meets its contract: fields of two bytes and of one side by side.
 use native.Mathlib.Omega.{arith}
 use Rattle.fields.specs.Laws.{field-join}
 use borrow.Author.Needs.{needs}

@@ -1,4 +1,4 @@
--- `fields::get4` meets its contract: two fields of two bytes side by side. Assumes nothing.
+-- `fields::get4` meets its contract: two fields of two bytes side by side.
 use Rattle.fields.specs.Laws.{field-join}
 use borrow.Author.Needs.{needs}
 use Rattle.fields.proofs.get4.Statement.{statement}

@@ -1,4 +1,4 @@
--- `fields::put1` meets its contract. Assumes nothing.
+-- `fields::put1` meets its contract.
 use mathlib.Core.Path.{ap}
 use native.Mathlib.Omega.{arith}
 use lib.ListN.{set}

@@ -1,4 +1,4 @@
--- `fields::put2` meets its contract: two fields of one byte side by side. Assumes nothing.
+-- `fields::put2` meets its contract: two fields of one byte side by side.
 use mathlib.Core.Path.{_∙_, ap}
 use native.Mathlib.Omega.{arith}
 use borrow.Author.Needs.{needs}

@@ -1,4 +1,4 @@
--- `fields::put4` meets its contract: two fields of two bytes side by side. Assumes nothing.
+-- `fields::put4` meets its contract: two fields of two bytes side by side.
 use mathlib.Core.Path.{_∙_, ap}
 use native.Mathlib.Omega.{arith}
 use borrow.Author.Needs.{needs}

@@ -1,4 +1,4 @@
--- `listing_lines::put_cell` meets its contract. Assumes nothing.
+-- `listing_lines::put_cell` meets its contract.
 use borrow.Author.Needs.{needs}
 use Rattle.listing_lines.proofs.Exits.{cell-answered, cell-written}
 use Rattle.listing_lines.proofs.put_cell.Statement.{statement}

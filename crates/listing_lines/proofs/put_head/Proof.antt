@@ -1,4 +1,4 @@
--- `listing_lines::put_head` meets its contract. Assumes nothing.
+-- `listing_lines::put_head` meets its contract.
 use borrow.Author.Needs.{needs}
 use lib.Dec.{lit≤}
 use Rattle.listing_lines.proofs.Exits.{three-written}

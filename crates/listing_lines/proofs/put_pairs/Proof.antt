@@ -1,4 +1,4 @@
--- `listing_lines::put_pairs` meets its contract. Assumes nothing.
+-- `listing_lines::put_pairs` meets its contract.
 use borrow.Author.Needs.{needs}
 use Rattle.listing_lines.proofs.Exits.{matched-few, pairs-written}
 use Rattle.listing_lines.proofs.put_pairs.Statement.{statement}

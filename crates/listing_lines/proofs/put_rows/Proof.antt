@@ -1,4 +1,4 @@
--- `listing_lines::put_rows` meets its contract. Assumes nothing.
+-- `listing_lines::put_rows` meets its contract.
 use Prim.Native.Nat.{_-_}
 use native.Mathlib.Omega.{arith}
 use borrow.Author.Needs.{needs}

@@ -1,4 +1,4 @@
--- `listing_text::bound_refused` meets its contract. Assumes nothing.
+-- `listing_text::bound_refused` meets its contract.
 use borrow.Author.Needs.{needs}
 use Rattle.listing_text.proofs.Exits.{bound-absent, bound-there}
 use Rattle.listing_text.proofs.bound_refused.Statement.{statement}

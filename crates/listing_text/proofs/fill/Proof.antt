@@ -1,4 +1,4 @@
--- `listing_text::fill` meets its contract. Assumes nothing.
+-- `listing_text::fill` meets its contract.
 use borrow.Author.Needs.{needs}
 use Rattle.listing_text.proofs.Filled.{map-filled}
 use Rattle.listing_text.proofs.fill.Statement.{statement}

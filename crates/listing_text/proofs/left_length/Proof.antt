@@ -1,4 +1,4 @@
--- `listing_text::left_length` meets its contract. Assumes nothing.
+-- `listing_text::left_length` meets its contract.
 use borrow.Author.Needs.{needs}
 use Rattle.listing_text.proofs.Exits.{left-short, left-all, left-own}
 use Rattle.listing_text.proofs.left_length.Statement.{statement}

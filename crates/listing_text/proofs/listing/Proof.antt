@@ -1,4 +1,4 @@
--- `listing_text::listing` meets its contract. Assumes nothing.
+-- `listing_text::listing` meets its contract.
 use borrow.Author.Needs.{needs}
 use Rattle.listing_text.proofs.Exits.{listing-told}
 use Rattle.listing_text.proofs.listing.Statement.{statement}

@@ -1,5 +1,5 @@
--- `listing_text::many_cells` meets its contract. Assumes nothing.
-use Rattle.book.specs.Accepted.{book-long}
+-- `listing_text::many_cells` meets its contract.
+use Rattle.book.specs.AcceptedLaws.{book-long}
 use Rattle.listing_text.proofs.Exits.{many-left, many-right}
 use Rattle.listing_text.proofs.many_cells.Statement.{statement}
 use Rattle.listing_text.proofs.many_cells.Tie as tie

@@ -1,4 +1,4 @@
--- `listing_text::put_accepted` meets its contract. Assumes nothing.
+-- `listing_text::put_accepted` meets its contract.
 use borrow.Author.Needs.{needs}
 use Rattle.listing_text.proofs.Exits.{books-large, few-listed, books-listed}
 use Rattle.listing_text.proofs.put_accepted.Statement.{statement}

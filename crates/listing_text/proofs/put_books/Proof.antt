@@ -1,4 +1,4 @@
--- `listing_text::put_books` meets its contract. Assumes nothing.
+-- `listing_text::put_books` meets its contract.
 use borrow.Author.Needs.{needs}
 use Rattle.listing_text.proofs.Exits.{left-refused, right-refused, books-accepted}
 use Rattle.listing_text.proofs.put_books.Statement.{statement}

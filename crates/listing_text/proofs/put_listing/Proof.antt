@@ -1,4 +1,4 @@
--- `listing_text::put_listing` meets its contract. Assumes nothing.
+-- `listing_text::put_listing` meets its contract.
 use borrow.Author.Needs.{needs}
 use Rattle.listing_text.proofs.Exits.{input-large, input-refused, input-some, input-bound, input-listed}
 use Rattle.listing_text.proofs.put_listing.Statement.{statement}

@@ -1,6 +1,6 @@
--- `listing_text::put_matched` meets its contract. Assumes nothing.
+-- `listing_text::put_matched` meets its contract.
 use borrow.Author.Needs.{needs}
-use Rattle.book.specs.Accepted.{book-long}
+use Rattle.book.specs.AcceptedLaws.{book-long}
 use native.Mathlib.Omega.{arith}
 use Rattle.listing_text.proofs.Filled.{places-fit, places-inside, places-counted, places-asked, map-sized, map-listed}
 use Rattle.listing_text.proofs.put_matched.Statement.{statement}

@@ -1,4 +1,4 @@
--- `listing_text::put_split` meets its contract. Assumes nothing.
+-- `listing_text::put_split` meets its contract.
 use borrow.Author.Needs.{needs}
 use Rattle.listing_text.proofs.Exits.{split-counts, split-written}
 use Rattle.listing_text.proofs.put_split.Statement.{statement}

@@ -1,4 +1,4 @@
--- `open_book::answer_of` meets its contract. Assumes nothing.
+-- `open_book::answer_of` meets its contract.
 use borrow.Author.Needs.{needs}
 use Rattle.open_book.proofs.Exits.{answer-checked, answer-counted}
 use Rattle.open_book.proofs.answer_of.Statement.{statement}

@@ -1,4 +1,4 @@
--- `open_book::counts_of` meets its contract. Assumes nothing.
+-- `open_book::counts_of` meets its contract.
 use borrow.Author.Needs.{needs}
 use Rattle.open_book.proofs.Exits.{counts-accepted, counts-refused}
 use Rattle.open_book.proofs.counts_of.Statement.{statement}

@@ -1,4 +1,4 @@
--- `open_book::has_cell` meets its contract. Assumes nothing.
+-- `open_book::has_cell` meets its contract.
 use borrow.Author.Needs.{needs}
 use Rattle.open_book.proofs.Exits.{has-none, has-room}
 use Rattle.open_book.proofs.has_cell.Statement.{statement}

@@ -1,6 +1,5 @@
 -- `open_book::links` meets its contract: a walk of its MIR, by hand. The `OpenBook` that `open` returns is held in a local and passed to `links_out`; what is read of it is what Links hands out (`opened-part`).
 -- In a local of a body MIR erases the lifetime of the struct's type, so the value is shown to have the type at `erased`: what the struct owns does not say the lifetime's name.
--- Assumes nothing.
 use mathlib.Core.Path.{_≡_, refl, ap, _∙_}
 use Prim.Native.Nat.{ℕ, _<_, _^_}
 use mathlib.Core.List.{List, [], _∷_}
@@ -38,7 +37,7 @@ use denote.Exit.{yes}
 use denote.Triple.Clauses.{ensured, lasts}
 use Rattle.book.specs.BookLinks.{linksPart}
 use Rattle.open_book.specs.Opened.{opened, openPart}
-use Rattle.open_book.specs.Reading.{opened-part}
+use Rattle.open_book.specs.ReadingLaws.{opened-part}
 use Rattle.open_book.specs.declared.OpenBook.{OpenBook}
 use Rattle.open_book.proofs.OpenBook as T
 use Rattle.open_book.proofs.OpenBook.Laws as T′

@@ -1,4 +1,4 @@
--- `open_book::part_of` meets its contract. Assumes nothing.
+-- `open_book::part_of` meets its contract.
 use borrow.Author.Needs.{needs}
 use Rattle.open_book.proofs.Exits.{kept-below, kept-room, part-run, part-none}
 use Rattle.open_book.proofs.part_of.Statement.{statement}

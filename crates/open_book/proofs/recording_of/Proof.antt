@@ -1,4 +1,4 @@
--- `open_book::recording_of` meets its contract. Assumes nothing.
+-- `open_book::recording_of` meets its contract.
 use borrow.Author.Needs.{needs}
 use Rattle.open_book.proofs.Exits.{recorded-room, recorded, recorded-none}
 use Rattle.open_book.proofs.recording_of.Statement.{statement}

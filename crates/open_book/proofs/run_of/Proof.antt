@@ -1,4 +1,4 @@
--- `open_book::run_of` meets its contract. Assumes nothing.
+-- `open_book::run_of` meets its contract.
 use borrow.Author.Needs.{needs}
 use Rattle.open_book.proofs.Exits.{run-rises, run-ends, run-bytes}
 use Rattle.open_book.proofs.run_of.Statement.{statement}

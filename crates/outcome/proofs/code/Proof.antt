@@ -1,4 +1,4 @@
--- `outcome::code` meets its contract. Assumes nothing.
+-- `outcome::code` meets its contract.
 use native.Mathlib.Omega.{arith}
 use Rattle.outcome.specs.Outcome.{code}
 use borrow.Author.Needs.{needs}

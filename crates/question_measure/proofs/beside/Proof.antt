@@ -1,4 +1,4 @@
--- `question_measure::beside` meets its contract. Assumes nothing.
+-- `question_measure::beside` meets its contract.
 use borrow.Author.Needs.{needs}
 use Rattle.question_measure.proofs.Exits.{beside-first, beside-second}
 use Rattle.question_measure.proofs.beside.Statement.{statement}

@@ -1,4 +1,4 @@
--- `question_measure::entry_measure` meets its contract. Assumes nothing.
+-- `question_measure::entry_measure` meets its contract.
 use borrow.Author.Needs.{needs}
 use Rattle.question_measure.proofs.Exits.{entry-plain, entry-ways}
 use Rattle.question_measure.proofs.entry_measure.Statement.{statement}

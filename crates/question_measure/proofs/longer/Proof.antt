@@ -1,4 +1,4 @@
--- `question_measure::longer` meets its contract. Assumes nothing.
+-- `question_measure::longer` meets its contract.
 use borrow.Author.Needs.{needs}
 use Rattle.question_measure.proofs.Exits.{made-longer}
 use Rattle.question_measure.proofs.longer.Statement.{statement}

@@ -1,4 +1,4 @@
--- `question_measure::measure_of` meets its contract. Assumes nothing.
+-- `question_measure::measure_of` meets its contract.
 use borrow.Author.Needs.{needs}
 use Rattle.sheet.specs.KnownLaws.{entry-few, entries-fit}
 use Rattle.question_measure.proofs.Exits.{measured-last}

@@ -1,4 +1,4 @@
--- `question_measure::named` meets its contract. Assumes nothing.
+-- `question_measure::named` meets its contract.
 use borrow.Author.Needs.{needs}
 use Rattle.sheet.specs.KnownLaws.{number-known}
 use Rattle.question_measure.proofs.Exits.{named-made}

@@ -1,4 +1,4 @@
--- `question_measure::plain_measure` meets its contract. Assumes nothing.
+-- `question_measure::plain_measure` meets its contract.
 use borrow.Author.Needs.{needs}
 use Rattle.sheet.specs.KnownLaws.{first-number, second-number}
 use Rattle.question_measure.proofs.Exits.{plain-true, plain-not, plain-two}

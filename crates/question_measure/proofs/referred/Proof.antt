@@ -1,4 +1,4 @@
--- `question_measure::referred` meets its contract. Assumes nothing.
+-- `question_measure::referred` meets its contract.
 use borrow.Author.Needs.{needs}
 use Rattle.question_measure.proofs.Exits.{referred-most, referred-more}
 use Rattle.question_measure.proofs.referred.Statement.{statement}

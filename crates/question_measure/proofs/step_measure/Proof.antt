@@ -1,4 +1,4 @@
--- `question_measure::step_measure` meets its contract. Assumes nothing.
+-- `question_measure::step_measure` meets its contract.
 use borrow.Author.Needs.{needs}
 use Rattle.sheet.specs.KnownLaws.{has-step, test-known}
 use Rattle.question_measure.proofs.Exits.{step-made}

@@ -1,4 +1,4 @@
--- `question_measure::steps_measure` meets its contract. Assumes nothing.
+-- `question_measure::steps_measure` meets its contract.
 use mathlib.Core.Path.{_≡_}
 use Prim.Native.Nat.{_≤_}
 use native.Mathlib.Omega.{arith}

@@ -1,4 +1,4 @@
--- `question_measure::way_measure` meets its contract. Assumes nothing.
+-- `question_measure::way_measure` meets its contract.
 use borrow.Author.Needs.{needs}
 use Rattle.question_measure.proofs.Exits.{way-none, way-some}
 use Rattle.question_measure.proofs.way_measure.Statement.{statement}

@@ -1,4 +1,4 @@
--- `question_measure::ways_measure` meets its contract. Assumes nothing.
+-- `question_measure::ways_measure` meets its contract.
 use borrow.Author.Needs.{needs}
 use Rattle.sheet.specs.KnownLaws.{first-known, second-known}
 use Rattle.question_measure.proofs.Exits.{has-second, ways-one, ways-same, ways-differ}

@@ -1,5 +1,5 @@
 -- The writers of questions and ways are proved as one cycle of calls: the entry's number falls from a question to its parts and tests (a writer's place
--- on the way there is added to eight times the number), and the steps left of a way fall in the loop. The laws are in `Questions` and `Ways`. Assumes nothing.
+-- on the way there is added to eight times the number), and the steps left of a way fall in the loop. The laws are in `Questions` and `Ways`.
 use mathlib.Core.Path.{_≡_, refl}
 use Prim.Native.Nat.{ℕ, _<_, _+_, _*_, _≤_}
 use native.Mathlib.Omega.{arith}

@@ -1,4 +1,4 @@
--- `question_text::entry_answer` meets its contract. Assumes nothing.
+-- `question_text::entry_answer` meets its contract.
 use borrow.Author.Needs.{needs}
 use Rattle.question_text.proofs.Operations.{chain-long, text-long, text-told}
 use Rattle.question_text.proofs.entry_answer.Statement.{statement}

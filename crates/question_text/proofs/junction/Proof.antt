@@ -1,4 +1,4 @@
--- `question_text::junction` meets its contract. Assumes nothing.
+-- `question_text::junction` meets its contract.
 use Rattle.question_text.proofs.Pieces.{junction-and, junction-or}
 use Rattle.question_text.proofs.junction.Statement.{statement}
 use Rattle.question_text.proofs.junction.Tie as tie

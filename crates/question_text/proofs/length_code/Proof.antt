@@ -1,4 +1,4 @@
--- `question_text::length_code` meets its contract. Assumes nothing.
+-- `question_text::length_code` meets its contract.
 use borrow.Author.Needs.{needs}
 use Rattle.outcome.specs.Outcome.{code}
 use Rattle.question_text.specs.Answer.{textOutcome}

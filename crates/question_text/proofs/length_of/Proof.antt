@@ -1,4 +1,4 @@
--- `question_text::length_of` meets its contract. Assumes nothing.
+-- `question_text::length_of` meets its contract.
 use borrow.Author.Needs.{needs}
 use Rattle.question_text.proofs.Operations.{checked-refused, checked-none, checked-good, checked-there, checked-told}
 use Rattle.question_text.proofs.length_of.Statement.{statement}

@@ -1,4 +1,4 @@
--- `question_text::list_starts` meets its contract. Assumes nothing.
+-- `question_text::list_starts` meets its contract.
 use mathlib.Core.Path.{_≡_}
 use Prim.Native.Nat.{_≤_, _-_}
 use native.Mathlib.Omega.{arith}
@@ -8,7 +8,8 @@ use Rattle.sheet.specs.Sheet.{entryStart}
 use Rattle.fields.specs.Fields.{Bytes}
 use Rattle.sheet.specs.Known.{EntriesFit}
 use Rattle.sheet.specs.KnownLaws.{fit-first, fit-readable, start-next}
-use Rattle.question_measure.specs.Holds.{Holds, holds-none}
+use Rattle.question_measure.specs.Holds.{Holds}
+use Rattle.question_measure.specs.HoldsLaws.{holds-none}
 use Rattle.question_text.proofs.Pieces.{start-small, starts-next, starts-end}
 use Rattle.question_text.proofs.list_starts.Statement.{statement}
 use Rattle.question_text.proofs.list_starts.Tie as tie

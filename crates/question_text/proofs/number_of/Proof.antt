@@ -1,4 +1,4 @@
--- `question_text::number_of` meets its contract. Assumes nothing.
+-- `question_text::number_of` meets its contract.
 use borrow.Author.Needs.{needs}
 use Rattle.question_text.proofs.Operations.{answered}
 use Rattle.question_text.proofs.number_of.Statement.{statement}

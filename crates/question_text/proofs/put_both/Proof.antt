@@ -1,4 +1,4 @@
--- `question_text::put_both` meets its contract. Assumes nothing.
+-- `question_text::put_both` meets its contract.
 use borrow.Author.Needs.{needs}
 use Rattle.question_text.proofs.Pieces.{both-put}
 use Rattle.question_text.proofs.put_both.Statement.{statement}

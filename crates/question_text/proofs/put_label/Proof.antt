@@ -1,4 +1,4 @@
--- `question_text::put_label` meets its contract. Assumes nothing.
+-- `question_text::put_label` meets its contract.
 use borrow.Author.Needs.{needs}
 use Rattle.question_text.proofs.Pieces.{slash-fits, label-fits, label-put}
 use Rattle.question_text.proofs.put_label.Statement.{statement}

@@ -1,4 +1,4 @@
--- `question_text::put_sign` meets its contract. Assumes nothing.
+-- `question_text::put_sign` meets its contract.
 use borrow.Author.Needs.{needs}
 use Rattle.question_text.proofs.Pieces.{same-put, differ-put}
 use Rattle.question_text.proofs.put_sign.Statement.{statement}

@@ -1,4 +1,4 @@
--- `question_text::put_text` meets its contract. Assumes nothing.
+-- `question_text::put_text` meets its contract.
 use native.Mathlib.Omega.{arith}
 use borrow.Author.Needs.{needs}
 use Rattle.sheet.specs.KnownLaws.{entry-few, entries-fit}

@@ -1,4 +1,4 @@
--- `question_text::start_of` meets its contract. Assumes nothing.
+-- `question_text::start_of` meets its contract.
 use native.Mathlib.Omega.{arith}
 use borrow.Author.Needs.{needs}
 use Rattle.question_text.proofs.start_of.Statement.{statement}

@@ -1,4 +1,4 @@
--- `question_text::text_code` meets its contract. Assumes nothing.
+-- `question_text::text_code` meets its contract.
 use borrow.Author.Needs.{needs}
 use Rattle.question_text.proofs.Operations.{told-written}
 use Rattle.question_text.proofs.text_code.Statement.{statement}

@@ -1,4 +1,4 @@
--- `question_text::write_of` meets its contract. Assumes nothing.
+-- `question_text::write_of` meets its contract.
 use borrow.Author.Needs.{needs}
 use Rattle.question_text.proofs.Operations.{write-small, write-good, write-there, write-fits, write-done, write-sheet, write-refused}
 use Rattle.question_text.proofs.write_of.Statement.{statement}

@@ -1,9 +1,9 @@
--- `search::by_lengths` meets its contract. The invariant: the lengths passed are clear. Assumes nothing.
+-- `search::by_lengths` meets its contract. The invariant: the lengths passed are clear.
 use native.Mathlib.Omega.{arith}
 use borrow.Author.Needs.{needs}
 use mathlib.Core.Logic.{⊎-elim}
 use Prim.Native.Nat.{_+_, _-_, _/_, _≤_}
-use Rattle.hops.specs.Hops.{viewOf}
+use Rattle.search_links.specs.Hops.{viewOf}
 use Rattle.search.specs.Lengths.{Ready}
 use Rattle.search.proofs.Ranges.{asked, LengthsTo, lengths-start, lengths-next, lengths-end, lengths-found}
 use Rattle.search.proofs.by_lengths.Statement.{statement}

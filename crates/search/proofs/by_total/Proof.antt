@@ -1,9 +1,9 @@
--- `search::by_total` meets its contract. The invariant: what has fewer links in all is clear. Assumes nothing.
+-- `search::by_total` meets its contract. The invariant: what has fewer links in all is clear.
 use native.Mathlib.Omega.{arith}
 use borrow.Author.Needs.{needs}
 use Prim.Native.Nat.{_+_, _-_, _≤_}
-use Rattle.hops.specs.Hops.{viewOf}
-use Rattle.hops.specs.Sets.{Valued}
+use Rattle.search_links.specs.Hops.{viewOf}
+use Rattle.search_links.specs.Sets.{Valued}
 use Rattle.search.specs.Lengths.{Ready}
 use Rattle.search.proofs.Ranges.{asked, TotalsTo, totals-start, totals-none, totals-next, totals-end, totals-found}
 use Rattle.search.proofs.by_total.Statement.{statement}

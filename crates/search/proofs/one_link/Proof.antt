@@ -1,7 +1,7 @@
 use mathlib.Core.Path.{_≡_}
 use Prim.Native.Nat.{_+_, _-_, _^_, _≤_}
 use lib.ListN.{getD}
-use Rattle.hops.specs.Hops.{viewOf, total}
+use Rattle.search_links.specs.Hops.{viewOf, total}
 use Rattle.search.specs.Lengths.{Ready}
 use Rattle.search.proofs.Links.{LinksTo, links-start, links-next, links-found, links-end, until-few, link-low}
 use borrow.Author.Needs.{needs}
@@ -35,26 +35,17 @@ element-copy-out-k c = search needs
 loop-holds : tie.Need-loop-holds Inv-loop μ-loop
 loop-holds c = (search needs, search needs, search needs, search until-few, search needs, search needs, search links-start)
 
-cast-step : tie.Need-cast-step Inv-loop μ-loop
-cast-step c = search needs
+label-requires : tie.Need-label-requires Inv-loop μ-loop
+label-requires c κs = search needs
 
-mul-step : tie.Need-mul-step Inv-loop μ-loop
-mul-step c = search needs
-
-element-copy-out-step : tie.Need-element-copy-out-step Inv-loop μ-loop
-element-copy-out-step c = search needs
-
-cast-step-2 : tie.Need-cast-step-2 Inv-loop μ-loop
-cast-step-2 c = search needs
-
-element-copy-out-step-2 : tie.Need-element-copy-out-step-2 Inv-loop μ-loop
-element-copy-out-step-2 c = search needs
+target-requires : tie.Need-target-requires Inv-loop μ-loop
+target-requires c κs = search needs
 
 step-requires : tie.Need-step-requires Inv-loop μ-loop
-step-requires c κs = (search needs, link-low _ _ _ _ (c .before .before .before .loop .inv .0 .left) (c .before .before .before .loop .inv .3) (c .before .before .loop-test .taken))
+step-requires c κs = (search needs, link-low _ _ _ _ _ (c .before .before .before .loop .inv .0 .left) (c .before .before .before .loop .inv .3) (c .before .before .loop-test .taken) (c .target .ensures))
 
 returns : tie.Need-returns Inv-loop μ-loop
-returns c = links-found _ _ _ _ _ _ (c .before .before .before .before .before .loop .inv .6) _ _ (c .before .before .before .before .before .loop .inv .1) (c .before .step .ensures) _ (c .before .before .before .before .before .loop .inv .2) (c .before .before .before .before .before .loop .inv .5) (c .before .before .before .before .loop-test .taken) (c .if1 .taken)
+returns c = search links-found
 
 add-k : tie.Need-add-k Inv-loop μ-loop
 add-k c = search needs
@@ -63,7 +54,7 @@ loop-less : tie.Need-loop-less Inv-loop μ-loop
 loop-less c = search needs
 
 loop-again : tie.Need-loop-again Inv-loop μ-loop
-loop-again c = (search needs, search needs, search needs, search needs, search needs, search needs, links-next _ _ _ _ _ _ (c .before .before .before .before .before .loop .inv .6) _ _ (c .before .before .before .before .before .loop .inv .1) (c .before .step .ensures) (c .if1 .left))
+loop-again c = (search needs, search needs, search needs, search needs, search needs, search needs, links-next _ _ _ _ _ _ (c .before .before .before .before .before .loop .inv .6) _ _ _ _ (c .before .before .before .before .before .loop .inv .1) (c .before .before .before .label .ensures) (c .before .before .target .ensures) (c .before .step .ensures) (c .if1 .left))
 
 returns-2 : tie.Need-returns-2 Inv-loop μ-loop
 returns-2 c = search links-end
@@ -81,11 +72,8 @@ one-link-spec =
     mul-k
     element-copy-out-k
     loop-holds
-    cast-step
-    mul-step
-    element-copy-out-step
-    cast-step-2
-    element-copy-out-step-2
+    label-requires
+    target-requires
     step-requires
     returns
     add-k

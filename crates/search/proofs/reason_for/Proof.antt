@@ -22,14 +22,11 @@ returns c = why-link _ _ _ _ _ _ _ _ (c .before .before .before .pre .0 .left) (
 by-total-requires : tie.Need-by-total-requires
 by-total-requires c κs = search needs
 
-steps-of-requires : tie.Need-steps-of-requires
-steps-of-requires c κs = search needs
-
-steps-of-requires-2 : tie.Need-steps-of-requires-2
-steps-of-requires-2 c κs = search needs
-
 returns-2 : tie.Need-returns-2
-returns-2 c = why-two _ _ _ _ _ _ _ _ (c .before .before .before .before .before .before .before .before .pre .0 .left) (c .before .before .before .before .before .before .before .before .pre .0 .cell) _ (c .before .before .before .before .before .before .before .one-link .ensures) (c .before .before .before .before .before .if1 .left) (c .before .before .before .before .before .before .before .before .pre .1) _ (c .before .before .before .before .by-total .ensures) _ refl (c .before .steps-of .ensures) (c .steps-of2 .ensures)
+returns-2 c =
+    let start = c .before .before .before .before .before .before .pre in
+    why-two _ _ _ _ _ _ _ _ (start .0 .left) (start .0 .cell) _ (c .before .before .before .before .before .one-link .ensures) (c .before .before .before .if1 .left)
+    (start .1) _ (c .before .before .by-total .ensures) _ refl refl refl
 
 pub reason-for-spec : {M : Type 1} → statement M
 reason-for-spec =
@@ -41,6 +38,4 @@ reason-for-spec =
     element-copy-out-if1
     returns
     by-total-requires
-    steps-of-requires
-    steps-of-requires-2
     returns-2)

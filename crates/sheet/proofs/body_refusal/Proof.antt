@@ -1,4 +1,4 @@
--- `sheet::body_refusal` meets its contract: the three groups of kinds. Assumes nothing.
+-- `sheet::body_refusal` meets its contract: the three groups of kinds.
 use borrow.Author.Needs.{needs}
 use Rattle.sheet.proofs.Laws.{body-by-plain, body-by-way, body-by-comparison}
 use Rattle.sheet.proofs.body_refusal.Statement.{statement}

@@ -1,4 +1,4 @@
--- `sheet::check` meets its contract: the answer of the refusal, and the values of an accepted header. Assumes nothing.
+-- `sheet::check` meets its contract: the answer of the refusal, and the values of an accepted header.
 use borrow.Author.Needs.{needs}
 use Rattle.sheet.proofs.Laws.{answer-refused, answer-accepted, sheet-long}
 use Rattle.sheet.proofs.check.Statement.{statement}

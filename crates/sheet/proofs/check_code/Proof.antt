@@ -1,4 +1,4 @@
--- `sheet::check_code` meets its contract: the number of the answer, case by case. Assumes nothing.
+-- `sheet::check_code` meets its contract: the number of the answer, case by case.
 use borrow.Author.Needs.{needs}
 use Rattle.sheet.proofs.Laws.{code-accepted, code-refused}
 use Rattle.sheet.proofs.check_code.Statement.{statement}

@@ -1,4 +1,4 @@
--- `sheet::comparison_refusal` meets its contract: a law for each way out. Assumes nothing.
+-- `sheet::comparison_refusal` meets its contract: a law for each way out.
 use borrow.Author.Needs.{needs}
 use Rattle.sheet.proofs.Laws.{comparison-short, comparison-first, comparison-second, comparison-size, comparison-tests}
 use Rattle.sheet.proofs.comparison_refusal.Statement.{statement}

@@ -1,10 +1,10 @@
--- `sheet::entries_refusal` meets its contract: the loop keeps the refusal of the entries still to come equal to the whole. Assumes nothing.
+-- `sheet::entries_refusal` meets its contract: the loop keeps the refusal of the entries still to come equal to the whole.
 use mathlib.Core.Path.{_≡_}
 use Prim.Native.Nat.{_-_, _≤_}
 use native.Mathlib.Omega.{arith}
 use borrow.Author.Needs.{needs}
 use lib.ListN.{length}
-use Rattle.sheet.specs.Reading.{readable-passed}
+use Rattle.sheet.specs.ReadingLaws.{readable-passed}
 use Rattle.sheet.specs.Sheet.{entriesRefusal, headSize}
 use Rattle.sheet.proofs.Laws.{entries-start, entries-over, entries-good, entries-stop, entries-next, entries-inside}
 use Rattle.sheet.proofs.entries_refusal.Statement.{statement}

@@ -1,4 +1,4 @@
--- `sheet::entry_refusal` meets its contract: a law for each way out. Assumes nothing.
+-- `sheet::entry_refusal` meets its contract: a law for each way out.
 use borrow.Author.Needs.{needs}
 use Rattle.sheet.proofs.Laws.{entry-absent, entry-empty, entry-past, entry-kind, entry-body, kind-most}
 use Rattle.sheet.proofs.entry_refusal.Statement.{statement}

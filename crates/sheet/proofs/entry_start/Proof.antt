@@ -1,4 +1,4 @@
--- `sheet::entry_start` meets its contract: the loop keeps `at` at the start of entry n. Assumes nothing.
+-- `sheet::entry_start` meets its contract: the loop keeps `at` at the start of entry n.
 use mathlib.Core.Path.{_≡_, refl}
 use Prim.Native.Nat.{_-_, _≤_, _<_}
 use native.Mathlib.Omega.{arith}

@@ -1,6 +1,6 @@
--- `sheet::first_way` meets its contract: its steps stand behind the step counts. Assumes nothing.
+-- `sheet::first_way` meets its contract: its steps stand behind the step counts.
 use borrow.Author.Needs.{needs}
-use Rattle.sheet.specs.Reading.{first-inside}
+use Rattle.sheet.specs.ReadingLaws.{first-inside}
 use Rattle.sheet.proofs.Laws.{first-of-way, first-of-comparison}
 use Rattle.sheet.proofs.first_way.Statement.{statement}
 use Rattle.sheet.proofs.first_way.Tie as tie

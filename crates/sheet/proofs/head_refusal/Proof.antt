@@ -1,4 +1,4 @@
--- `sheet::head_refusal` meets its contract: a law for each way out. Assumes nothing.
+-- `sheet::head_refusal` meets its contract: a law for each way out.
 use borrow.Author.Needs.{needs}
 use Rattle.sheet.proofs.Laws.{head-1, head-2, head-3, head-bound, head-none, head-many, head-0}
 use Rattle.sheet.proofs.head_refusal.Statement.{statement}

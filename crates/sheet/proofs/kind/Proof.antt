@@ -1,4 +1,4 @@
--- `sheet::kind` meets its contract: the kind byte is the kind of the entry. Assumes nothing.
+-- `sheet::kind` meets its contract: the kind byte is the kind of the entry.
 use borrow.Author.Needs.{needs}
 use Rattle.sheet.proofs.Laws.{kind-returned}
 use Rattle.sheet.proofs.kind.Statement.{statement}

@@ -1,4 +1,4 @@
--- `sheet::kind_refusal` meets its contract: a law for each way out. Assumes nothing.
+-- `sheet::kind_refusal` meets its contract: a law for each way out.
 use Rattle.sheet.proofs.Laws.{kind-above, kind-later, kind-first, kind-true}
 use Rattle.sheet.proofs.kind_refusal.Statement.{statement}
 use Rattle.sheet.proofs.kind_refusal.Tie as tie

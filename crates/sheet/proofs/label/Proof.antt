@@ -1,4 +1,4 @@
--- `sheet::label` meets its contract: step i stands i steps on. Assumes nothing.
+-- `sheet::label` meets its contract: step i stands i steps on.
 use borrow.Author.Needs.{needs}
 use Rattle.sheet.proofs.Laws.{label-returned}
 use Rattle.sheet.proofs.label.Statement.{statement}

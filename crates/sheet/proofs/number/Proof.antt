@@ -1,7 +1,7 @@
--- `sheet::number` meets its contract: numbers stand one after another behind the kind byte. Assumes nothing.
+-- `sheet::number` meets its contract: numbers stand one after another behind the kind byte.
 use native.Mathlib.Omega.{arith}
 use borrow.Author.Needs.{needs}
-use Rattle.sheet.specs.Reading.{number-inside}
+use Rattle.sheet.specs.ReadingLaws.{number-inside}
 use Rattle.sheet.proofs.Laws.{number-returned}
 use Rattle.sheet.proofs.number.Statement.{statement}
 use Rattle.sheet.proofs.number.Tie as tie

@@ -1,4 +1,4 @@
--- `sheet::number_refusal` meets its contract: a law for each way out. Assumes nothing.
+-- `sheet::number_refusal` meets its contract: a law for each way out.
 use borrow.Author.Needs.{needs}
 use Rattle.sheet.proofs.Laws.{number-earlier, number-later}
 use Rattle.sheet.proofs.number_refusal.Statement.{statement}

@@ -1,4 +1,4 @@
--- `sheet::plain_refusal` meets its contract: a law for each way out. Assumes nothing.
+-- `sheet::plain_refusal` meets its contract: a law for each way out.
 use borrow.Author.Needs.{needs}
 use Rattle.sheet.proofs.Laws.{true-size, true-good, not-size, not-number, two-size, two-first, two-second}
 use Rattle.sheet.proofs.plain_refusal.Statement.{statement}

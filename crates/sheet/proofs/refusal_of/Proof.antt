@@ -1,4 +1,4 @@
--- `sheet::refusal_of` meets its contract: the header's refusal, else the entries'. Assumes nothing.
+-- `sheet::refusal_of` meets its contract: the header's refusal, else the entries'.
 use borrow.Author.Needs.{needs}
 use Rattle.sheet.proofs.Laws.{refusal-head, refusal-entries, head-long}
 use Rattle.sheet.proofs.refusal_of.Statement.{statement}

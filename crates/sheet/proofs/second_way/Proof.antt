@@ -1,7 +1,7 @@
--- `sheet::second_way` meets its contract: its steps stand behind the first way's. Assumes nothing.
+-- `sheet::second_way` meets its contract: its steps stand behind the first way's.
 use native.Mathlib.Omega.{arith}
 use borrow.Author.Needs.{needs}
-use Rattle.sheet.specs.Reading.{second-inside}
+use Rattle.sheet.specs.ReadingLaws.{second-inside}
 use Rattle.sheet.proofs.Laws.{second-of-comparison}
 use Rattle.sheet.proofs.second_way.Statement.{statement}
 use Rattle.sheet.proofs.second_way.Tie as tie

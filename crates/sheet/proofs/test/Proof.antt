@@ -1,4 +1,4 @@
--- `sheet::test` meets its contract: step i stands i steps on. Assumes nothing.
+-- `sheet::test` meets its contract: step i stands i steps on.
 use borrow.Author.Needs.{needs}
 use Rattle.sheet.proofs.Laws.{test-returned}
 use Rattle.sheet.proofs.test.Statement.{statement}

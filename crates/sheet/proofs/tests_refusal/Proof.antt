@@ -1,15 +1,15 @@
--- `sheet::tests_refusal` meets its contract: the loop keeps the refusal of the tests still to come equal to the whole. Assumes nothing.
+-- `sheet::tests_refusal` meets its contract: the loop keeps the refusal of the tests still to come equal to the whole.
 use mathlib.Core.Path.{_≡_, refl}
 use Prim.Native.Nat.{_+_, _*_, _≤_}
 use native.Mathlib.Omega.{arith}
-use Rattle.sheet.specs.Entry.{tests}
+use Rattle.sheet.specs.Entry.{onlyVersion, tests}
 use Rattle.sheet.specs.Sheet.{stepsAt, numbersRefusal, stepWidth}
 use Rattle.sheet.proofs.Laws.{tests-end, tests-stop, tests-next}
 use Rattle.sheet.proofs.tests_refusal.Statement.{statement}
 use Rattle.sheet.proofs.tests_refusal.Tie as tie
 
 abbrev Inv-loop : tie.InvT-loop
-Inv-loop s n base count at₀ left₀ at left = (numbersRefusal n (tests (stepsAt s base count)) ≡ numbersRefusal n (tests (stepsAt s at left))) × (at + stepWidth * left ≡ base + stepWidth * count)
+Inv-loop s n base count at₀ left₀ at left = (numbersRefusal n (tests (stepsAt s base count)) ≡ numbersRefusal n (tests (stepsAt s at left))) × (at + stepWidth onlyVersion * left ≡ base + stepWidth onlyVersion * count)
     × (left ≤ count)
 
 abbrev μ-loop : tie.MeasureT-loop

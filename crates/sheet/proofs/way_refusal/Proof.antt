@@ -1,4 +1,4 @@
--- `sheet::way_refusal` meets its contract: a law for each way out. Assumes nothing.
+-- `sheet::way_refusal` meets its contract: a law for each way out.
 use borrow.Author.Needs.{needs}
 use Rattle.sheet.proofs.Laws.{way-short, way-large, way-size, way-tests}
 use Rattle.sheet.proofs.way_refusal.Statement.{statement}

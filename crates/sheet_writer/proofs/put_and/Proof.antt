@@ -1,4 +1,4 @@
--- `sheet_writer::put_and` meets its contract: kind 2 of two numbers. Assumes nothing.
+-- `sheet_writer::put_and` meets its contract: kind 2 of two numbers.
 use borrow.Author.Needs.{needs}
 use Rattle.sheet_writer.proofs.Laws.{and-written}
 use Rattle.sheet_writer.proofs.put_and.Statement.{statement}

@@ -1,4 +1,4 @@
--- `sheet_writer::put_comparison` meets its contract: its head and step counts, then its steps. Assumes nothing.
+-- `sheet_writer::put_comparison` meets its contract: its head and step counts, then its steps.
 use borrow.Author.Needs.{needs}
 use Rattle.sheet_writer.proofs.Laws.{comparison-written}
 use Rattle.sheet_writer.proofs.put_comparison.Statement.{statement}

@@ -1,4 +1,4 @@
--- `sheet_writer::put_counts` meets its contract: its head, then its step counts. Assumes nothing.
+-- `sheet_writer::put_counts` meets its contract: its head, then its step counts.
 use borrow.Author.Needs.{needs}
 use Rattle.sheet_writer.proofs.Laws.{counts-written}
 use Rattle.sheet_writer.proofs.put_counts.Statement.{statement}

@@ -1,4 +1,4 @@
--- `sheet_writer::put_header` meets its contract: three runs of bytes, one behind another. Assumes nothing.
+-- `sheet_writer::put_header` meets its contract: three runs of bytes, one behind another.
 use borrow.Author.Needs.{needs}
 use Rattle.sheet_writer.proofs.Laws.{header-written}
 use Rattle.sheet_writer.proofs.put_header.Statement.{statement}

@@ -1,4 +1,4 @@
--- `sheet_writer::put_not` meets its contract: its head, then its number. Assumes nothing.
+-- `sheet_writer::put_not` meets its contract: its head, then its number.
 use borrow.Author.Needs.{needs}
 use Rattle.sheet_writer.proofs.Laws.{not-written}
 use Rattle.sheet_writer.proofs.put_not.Statement.{statement}

@@ -1,4 +1,4 @@
--- `sheet_writer::put_or` meets its contract: kind 3 of two numbers. Assumes nothing.
+-- `sheet_writer::put_or` meets its contract: kind 3 of two numbers.
 use borrow.Author.Needs.{needs}
 use Rattle.sheet_writer.proofs.Laws.{or-written}
 use Rattle.sheet_writer.proofs.put_or.Statement.{statement}

@@ -1,4 +1,4 @@
--- `sheet_writer::put_pair` meets its contract: two stores. Assumes nothing.
+-- `sheet_writer::put_pair` meets its contract: two stores.
 use native.Mathlib.Omega.{arith}
 use borrow.Author.Needs.{needs}
 use lib.ListN.{length-set}

@@ -1,4 +1,4 @@
--- `sheet_writer::put_step` meets its contract: its label, then its number. Assumes nothing.
+-- `sheet_writer::put_step` meets its contract: its label, then its number.
 use borrow.Author.Needs.{needs}
 use Rattle.sheet_writer.proofs.Laws.{step-written}
 use Rattle.sheet_writer.proofs.put_step.Statement.{statement}

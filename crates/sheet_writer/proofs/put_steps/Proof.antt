@@ -1,9 +1,10 @@
--- `sheet_writer::put_steps` meets its contract: the loop keeps what the room holds in the end equal to what it holds with the steps still to come. Assumes nothing.
+-- `sheet_writer::put_steps` meets its contract: the loop keeps what the room holds in the end equal to what it holds with the steps still to come.
 use mathlib.Core.Path.{_≡_, refl}
 use Prim.Native.Nat.{_+_, _-_, _*_, _≤_}
 use native.Mathlib.Omega.{arith}
 use borrow.Author.Needs.{needs}
 use lib.ListN.{length}
+use Rattle.sheet.specs.Entry.{onlyVersion}
 use Rattle.sheet.specs.Sheet.{stepWidth}
 use Rattle.sheet_writer.specs.Writing.{StepsFit}
 use Rattle.sheet_writer.proofs.Laws.{Rest, steps-start, steps-next, steps-end}
@@ -11,7 +12,7 @@ use Rattle.sheet_writer.proofs.put_steps.Statement.{statement}
 use Rattle.sheet_writer.proofs.put_steps.Tie as tie
 
 abbrev Inv-loop : tie.InvT-loop
-Inv-loop room₀ base labels tests count at₀ i₀ room at i = Rest room₀ base labels tests count room at i × (at ≡ base + stepWidth * i) × (i ≤ count) × (length room ≡ length room₀) × StepsFit room₀ base labels tests count
+Inv-loop room₀ base labels tests count at₀ i₀ room at i = Rest room₀ base labels tests count room at i × (at ≡ base + stepWidth onlyVersion * i) × (i ≤ count) × (length room ≡ length room₀) × StepsFit room₀ base labels tests count
 
 abbrev μ-loop : tie.MeasureT-loop
 μ-loop room₀ base labels tests count at₀ i₀ room at i = count - i

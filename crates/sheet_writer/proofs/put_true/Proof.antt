@@ -1,4 +1,4 @@
--- `sheet_writer::put_true` meets its contract: its two bytes. Assumes nothing.
+-- `sheet_writer::put_true` meets its contract: its two bytes.
 use borrow.Author.Needs.{needs}
 use Rattle.sheet_writer.proofs.Laws.{true-written}
 use Rattle.sheet_writer.proofs.put_true.Statement.{statement}

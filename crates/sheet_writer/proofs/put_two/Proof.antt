@@ -1,4 +1,4 @@
--- `sheet_writer::put_two` meets its contract: its head, then its numbers. Assumes nothing.
+-- `sheet_writer::put_two` meets its contract: its head, then its numbers.
 use borrow.Author.Needs.{needs}
 use Rattle.sheet_writer.proofs.Laws.{two-written}
 use Rattle.sheet_writer.proofs.put_two.Statement.{statement}

@@ -1,4 +1,4 @@
--- `sheet_writer::put_way` meets its contract: its head, its step count, then its steps. Assumes nothing.
+-- `sheet_writer::put_way` meets its contract: its head, its step count, then its steps.
 use borrow.Author.Needs.{needs}
 use Rattle.sheet_writer.proofs.Laws.{way-written}
 use Rattle.sheet_writer.proofs.put_way.Statement.{statement}

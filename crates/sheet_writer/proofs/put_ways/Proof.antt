@@ -1,4 +1,4 @@
--- `sheet_writer::put_ways` meets its contract: one way behind the other. Assumes nothing.
+-- `sheet_writer::put_ways` meets its contract: one way behind the other.
 use borrow.Author.Needs.{needs}
 use Rattle.sheet_writer.proofs.Laws.{ways-written}
 use Rattle.sheet_writer.proofs.put_ways.Statement.{statement}

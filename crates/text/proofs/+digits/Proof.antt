@@ -1,4 +1,4 @@
--- `text::digits` meets its contract. Assumes nothing.
+-- `text::digits` meets its contract.
 use Prim.Native.Nat.{ℕ, _<_}
 use native.Mathlib.Omega.{arith}
 use borrow.Fn.Kinds.{In}

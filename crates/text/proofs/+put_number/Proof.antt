@@ -1,4 +1,4 @@
--- `text::put_number` meets its contract. Assumes nothing.
+-- `text::put_number` meets its contract.
 use Prim.Native.Nat.{ℕ, _<_}
 use native.Mathlib.Omega.{arith}
 use borrow.Author.Needs.{needs}

@@ -1,4 +1,4 @@
--- `text::put_ending` meets its contract. Assumes nothing.
+-- `text::put_ending` meets its contract.
 use borrow.Author.Needs.{needs}
 use Rattle.text.specs.Text.{ending}
 use Rattle.text.specs.Laws.{wrote-both}

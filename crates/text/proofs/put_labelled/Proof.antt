@@ -1,4 +1,4 @@
--- `text::put_labelled` meets its contract. Assumes nothing.
+-- `text::put_labelled` meets its contract.
 use borrow.Author.Needs.{needs}
 use Rattle.text.specs.Text.{labelled}
 use Rattle.text.proofs.Exits.{labelled-fits, labelled-put}

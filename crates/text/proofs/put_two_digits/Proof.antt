@@ -1,4 +1,4 @@
--- `text::put_two_digits` meets its contract. Assumes nothing.
+-- `text::put_two_digits` meets its contract.
 use borrow.Author.Needs.{needs}
 use Rattle.text.proofs.Exits.{two-put}
 use Rattle.text.proofs.put_two_digits.Statement.{statement}

@@ -1,8 +1,11 @@
--- `truth::asked` meets its contract. Assumes nothing.
+-- `truth::asked` meets its contract.
 use borrow.Author.Needs.{needs}
 use Rattle.truth.proofs.Operations.{asked-here, asked-not}
 use Rattle.truth.proofs.asked.Statement.{statement}
 use Rattle.truth.proofs.asked.Tie as tie
+
+cast-k : tie.Need-cast-k
+cast-k c = search needs
 
 add-true-at : tie.Need-add-true-at
 add-true-at c = search needs
@@ -29,6 +32,7 @@ pub asked-spec : {M : Type 1} → statement M
 asked-spec =
     tie.close
     (tie.spec
+    cast-k
     add-true-at
     true-at-requires
     true-at-requires-2

@@ -1,4 +1,4 @@
--- `truth::claim` meets its contract. Assumes nothing.
+-- `truth::claim` meets its contract.
 use borrow.Author.Needs.{needs}
 use Rattle.truth.proofs.Operations.{sheet-good, sheet-count, claim-left, claim-right, claim-sheet}
 use Rattle.truth.proofs.claim.Statement.{statement}

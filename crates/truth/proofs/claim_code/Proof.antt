@@ -1,4 +1,4 @@
--- `truth::claim_code` meets its contract. A number that is too large for its type is cut, which changes no answer. Assumes nothing.
+-- `truth::claim_code` meets its contract. A number that is too large for its type is cut, which changes no answer.
 use borrow.Author.Needs.{needs}
 use Rattle.truth.proofs.Operations.{claim-coded}
 use Rattle.truth.proofs.claim_code.Statement.{statement}

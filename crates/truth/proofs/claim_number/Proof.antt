@@ -1,4 +1,4 @@
--- `truth::claim_number` meets its contract. Assumes nothing.
+-- `truth::claim_number` meets its contract.
 use borrow.Author.Needs.{needs}
 use Rattle.truth.proofs.Operations.{claim-number}
 use Rattle.truth.proofs.claim_number.Statement.{statement}

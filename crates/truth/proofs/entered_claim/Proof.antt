@@ -1,17 +1,17 @@
--- `truth::entered_claim` meets its contract. Assumes nothing.
+-- `truth::entered_claim` meets its contract.
 use borrow.Author.Needs.{needs}
 use Rattle.truth.proofs.Operations.{claim-left-cell, left-in, claim-right-cell, right-in, claim-yes, claim-no}
 use Rattle.truth.proofs.entered_claim.Statement.{statement}
 use Rattle.truth.proofs.entered_claim.Tie as tie
 
-has-cell-requires : tie.Need-has-cell-requires
-has-cell-requires c κs = search needs
+has-left-requires : tie.Need-has-left-requires
+has-left-requires c κs = search needs
 
 returns : tie.Need-returns
 returns c = search claim-left-cell
 
-has-cell-requires-2 : tie.Need-has-cell-requires-2
-has-cell-requires-2 c κs = search needs
+has-right-requires : tie.Need-has-right-requires
+has-right-requires c κs = search needs
 
 returns-2 : tie.Need-returns-2
 returns-2 c = search claim-right-cell
@@ -35,9 +35,9 @@ pub entered-claim-spec : {M : Type 1} → statement M
 entered-claim-spec =
     tie.close
     (tie.spec
-    has-cell-requires
+    has-left-requires
     returns
-    has-cell-requires-2
+    has-right-requires
     returns-2
     asked-requires
     same-length

@@ -1,4 +1,4 @@
--- `truth::truth` meets its contract. Assumes nothing.
+-- `truth::truth` meets its contract.
 use borrow.Author.Needs.{needs}
 use Rattle.truth.proofs.Operations.{truth-book, truth-sheet, truth-few, truth-room, truth-done}
 use Rattle.truth.proofs.truth.Statement.{statement}

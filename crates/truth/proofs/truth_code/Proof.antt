@@ -1,4 +1,4 @@
--- `truth::truth_code` meets its contract. Assumes nothing.
+-- `truth::truth_code` meets its contract.
 use borrow.Author.Needs.{needs}
 use Rattle.truth.proofs.Operations.{truth-coded}
 use Rattle.truth.proofs.truth_code.Statement.{statement}

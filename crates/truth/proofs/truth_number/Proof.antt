@@ -1,4 +1,4 @@
--- `truth::truth_number` meets its contract. Assumes nothing.
+-- `truth::truth_number` meets its contract.
 use borrow.Author.Needs.{needs}
 use Rattle.truth.proofs.Operations.{truth-number}
 use Rattle.truth.proofs.truth_number.Statement.{statement}

@@ -1,4 +1,4 @@
--- `truth::write_words` meets its contract. The lists and rows are the tables of the book. Assumes nothing.
+-- `truth::write_words` meets its contract. The lists and rows are the tables of the book.
 use borrow.Author.Needs.{needs}
 use Rattle.truth.proofs.Operations.{book-long, cells-few, loaded-held, words-written}
 use Rattle.truth.proofs.write_words.Statement.{statement}

@@ -1,4 +1,4 @@
--- `words::count` meets its contract. Assumes nothing.
+-- `words::count` meets its contract.
 use lib.Count.{ones-le}
 use Rattle.words.specs.Laws.{ones-tally}
 use Rattle.words.proofs.count.Statement.{statement}

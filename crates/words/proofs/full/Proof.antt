@@ -1,4 +1,4 @@
--- `words::full` meets its contract: all bits at 64, where a shift by 64 would be out of range. Assumes nothing.
+-- `words::full` meets its contract: all bits at 64, where a shift by 64 would be out of range.
 use borrow.Author.Needs.{needs}
 use Rattle.words.proofs.Shifts.{shifted-pos, shifted-less}
 use Rattle.words.proofs.full.Statement.{statement}

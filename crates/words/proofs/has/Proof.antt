@@ -1,4 +1,4 @@
--- `words::has` meets its contract. Assumes nothing.
+-- `words::has` meets its contract.
 use mathlib.Core.Path.{ap}
 use Prim.Native.Nat.{ℕ, _/_, _^_}
 use borrow.Author.Needs.{needs}

@@ -1,4 +1,4 @@
--- `words::inside` meets its contract. Assumes nothing.
+-- `words::inside` meets its contract.
 use Rattle.words.specs.Laws.{inside-iff}
 use Rattle.words.proofs.inside.Statement.{statement}
 use Rattle.words.proofs.inside.Tie as tie

@@ -1,4 +1,4 @@
--- `words::lowest` meets its contract. Assumes nothing.
+-- `words::lowest` meets its contract.
 use mathlib.Core.Path.{_≡_}
 use Prim.Native.Nat.{_<_}
 use native.Mathlib.Omega.{arith}

@@ -1,4 +1,4 @@
--- `words::minus` meets its contract. Assumes nothing.
+-- `words::minus` meets its contract.
 use native.Mathlib.Omega.{arith}
 use Rattle.words.specs.Laws.{bit-minus, minus-sum, minus-less}
 use Rattle.words.proofs.minus.Statement.{statement}

@@ -1,4 +1,4 @@
--- `words::only` meets its contract. Assumes nothing.
+-- `words::only` meets its contract.
 use borrow.Author.Needs.{needs}
 use Rattle.words.proofs.Shifts.{shifted}
 use Rattle.words.proofs.only.Statement.{statement}

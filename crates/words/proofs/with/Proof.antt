@@ -1,4 +1,4 @@
--- `words::with` meets its contract. Assumes nothing.
+-- `words::with` meets its contract.
 use mathlib.Core.Path.{ap}
 use borrow.Author.Needs.{needs}
 use lib.Bits.{bitOr}

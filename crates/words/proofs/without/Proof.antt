@@ -1,4 +1,4 @@
--- `words::without` meets its contract. Assumes nothing.
+-- `words::without` meets its contract.
 use mathlib.Core.Path.{ap}
 use borrow.Author.Needs.{needs}
 use lib.Bits.{bitXor}

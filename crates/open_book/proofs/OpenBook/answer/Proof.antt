@@ -1,6 +1,5 @@
 -- `open_book::OpenBook::answer` meets its contract: a walk of its MIR, by hand. The struct is taken apart, and `answer_of` is called on the slice and the counts.
 -- The struct is Copy: what it owns is had twice, one copy is kept whole for the exit, and of the other all fields go to the callee, in their order, beside the lifetime's token, which comes back.
--- Assumes nothing.
 use mathlib.Core.Path.{_≡_, refl}
 use mathlib.Core.List.{[], _∷_}
 use lib.Dec.{T as Holds}

@@ -1,6 +1,5 @@
 -- `open_book::OpenBook::links_out` meets its contract: a walk of its MIR, by hand. The struct is taken apart, and `part_of` is called on the slice, the counts and the cell.
 -- The struct is Copy: what it owns is had twice, one copy is kept whole for the exit, and of the other all fields go to the callee, in their order, with the cell's number and the lifetime's token, which comes back.
--- Assumes nothing.
 use mathlib.Core.Path.{_≡_, refl}
 use Prim.Native.Nat.{ℕ, _<_, _^_}
 use mathlib.Core.List.{List, [], _∷_}

@@ -1,6 +1,5 @@
 -- `open_book::OpenBook::open` meets its contract: a walk of its MIR, by hand. `counts_of` is called on the slice, and the struct is made of the slice and the counts, in the result's local.
 -- A `&[u8]` is Copy, so what it owns is had thrice: for the callee, for the exit, and inside the result, beside the counts' facts.
--- Assumes nothing.
 use mathlib.Core.Path.{_≡_, refl, ap}
 use Prim.Native.Nat.{ℕ, _<_, _^_}
 use mathlib.Core.List.{List, [], _∷_}

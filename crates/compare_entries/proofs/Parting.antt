@@ -1,0 +1,274 @@
+-- What each turn and each way out of the functions shows of the definitions of `specs/`. The numbers that the code computed are variables
+-- here, with what is known of them, so that `search` finds them in a need's record.
+use mathlib.Core.Bool.{Bool, true, false}
+use mathlib.Core.List.{List, [], _∷_, _++_}
+use mathlib.Core.Logic.{⊎-elim}
+use mathlib.Core.Path.{_≡_, refl, sym, ap, ap₂, _∙_}
+use Prim.Native.Nat.{ℕ, zero, suc, _+_, _*_, _≤_, _<_}
+use native.Mathlib.Nat.{eq-or-lt-of-le}
+use native.Mathlib.Numerals.{add-one}
+use native.Mathlib.Omega.{arith}
+use lib.ListN.{length, getD, set, take, drop, length-set, length-append}
+use lib.Seq.{drop-cons, length-take-le, getD-set-same, getD-set-other}
+use mir.Syntax.{w64}
+use mir.Val.{Fits}
+use Rattle.sheet.specs.Entry.{Entry, negation, entryWith, way}
+use Rattle.sheet.specs.WrittenLaws.{sizeOf}
+use Rattle.sheet_writer.specs.Writing.{step, stepsFrom, stepsGiven, StepsFit, WaysFit, PutEntry}
+use Rattle.search_links.specs.Hops.{viewOf}
+use Rattle.search_steps.specs.Paths.{pathOf}
+use Rattle.search.specs.Reasons.{pathIn}
+use Rattle.search.specs.Laws.{reason-link, reason-same, reason-differ}
+use Rattle.search_pairs.specs.declared.Route.{Route}
+use Rattle.search.specs.declared.Reason.{Reason}
+use Rattle.compare_laws.specs.Room.{reasonBytes}
+use Rattle.compare_laws.specs.Comparison.{State, Cause, ahead, back, withDenial, write, part, stepsAlong, reasonEntry}
+use Rattle.compare_entries.specs.Growing.{Roomy, Extends, sideOf, NameFits, Names}
+use Rattle.compare_entries.specs.GrowingLaws.{onward-more, extends-one, extends-more, side-at}
+use Rattle.compare_entries.specs.declared.Pen.{Pen}
+use Rattle.compare_entries.specs.Parting.{listed, causeIn, Passable, Spells, Puttable, Denies, PartFits, Lists, lists, Shows, Parted}
+use Rattle.compare_entries.specs.declared.Way.{Way}
+
+-- ---- the steps of a way, one turn at a time
+-- the first i are made
+pub record Filled (labels to numbers links names tests : List ℕ) (i : ℕ) : Type 0 where
+  pub named : length names ≡ 4
+  pub tested : length tests ≡ 4
+  pub label : (j : ℕ) → j < i → getD names j 0 ≡ getD labels (getD links j 0) 0
+  pub test : (j : ℕ) → j < i → getD tests j 0 ≡ getD numbers (getD to (getD links j 0) 0) 0
+
+-- a list that follows a rule below i, set by the rule at i
+set-rule : (f : ℕ → ℕ) (xs : List ℕ) (i v : ℕ) → i < length xs → v ≡ f i → ((j : ℕ) → j < i → getD xs j 0 ≡ f j) → (j : ℕ) → j < i + 1 → getD (set xs i v) j 0 ≡ f j
+set-rule f xs i v h d r j l =
+    ⊎-elim (λ e. rw e (getD-set-same xs i v 0 h ∙ d)) (λ o. getD-set-other xs i j v 0 (λ e. omega arith) ∙ r j o) (eq-or-lt-of-le (omega arith))
+
+module _ (labels to numbers : List ℕ) (base : ℕ) (path : Route) where
+  pub filled-none : (names tests : List ℕ) → length names ≡ 4 → length tests ≡ 4 → Filled labels to (sideOf base numbers) (path .links) names tests 0
+  filled-none names tests h k = record { named = h; tested = k; label = λ j l. absurd (omega arith); test = λ j l. absurd (omega arith) }
+
+  module _ (names tests : List ℕ) (i n : ℕ) (inv : Filled labels to (sideOf base numbers) (path .links) names tests i) (pass : Passable labels to path) (d : n ≡ path .len) where
+    pub filled-more : i < n → (a y : ℕ) → a ≡ getD labels (getD (path .links) i 0) 0 → y ≡ getD to (getD (path .links) i 0) 0
+        → Filled labels to (sideOf base numbers) (path .links) (set names i a) (set tests i (getD numbers (base + y) 0)) (i + 1)
+    filled-more h a y da dy =
+        let s = pass .numbered .short in
+        record {
+          named = length-set names i _ ∙ inv .named;
+          tested = length-set tests i _ ∙ inv .tested;
+          label = set-rule (λ j. getD labels (getD (path .links) j 0) 0) names i _ (omega (arith, inv .named)) da (inv .label);
+          test = set-rule (λ j. getD (sideOf base numbers) (getD to (getD (path .links) j 0) 0) 0) tests i _ (omega (arith, inv .tested))
+              (rw dy (sym (side-at base numbers _ (pass .numbered .low i (omega arith))))) (inv .test);
+        }
+
+    pub filled-all : i ≤ n → n ≤ i → Spells labels to (sideOf base numbers) path (record { labels = names; tests = tests })
+    unfolding stepsFrom stepsAlong pathOf
+    filled-all h k = record { steps = go (path .len) 0 (omega arith); labelled = inv .named; tested = inv .tested }
+      where
+        long : path .len ≤ length (path .links)
+        long = omega (arith, pass .numbered .short, pass .numbered .links)
+
+        go : (q j : ℕ) → j + q ≤ path .len → stepsFrom names tests j q ≡ stepsAlong (sideOf base numbers) (pathOf (viewOf [] labels to) (take q (drop j (path .links))))
+        go zero j l = refl
+        go (suc q) j l =
+            rw (drop-cons (path .links) j 0 (omega (arith, long)))
+            (ap₂ _∷_ (ap₂ step (inv .label j (omega arith)) (inv .test j (omega arith)))
+            (go q (j + 1) (omega arith) ∙ rw (add-one j)))
+
+  -- what the reads of a turn ask
+  module _ (pass : Passable labels to path) (i n : ℕ) (d : n ≡ path .len) (h : i < n) where
+    pub link-below : getD (path .links) i 0 < 512
+    link-below = pass .numbered .below i (omega arith)
+
+    pub label-below : (a : ℕ) → a ≡ getD labels (getD (path .links) i 0) 0 → a < 256
+    label-below a da = rw da (pass .narrow i (omega arith))
+
+    module _ (low : base ≤ 64) (y : ℕ) (dy : y ≡ getD to (getD (path .links) i 0) 0) where
+      node-below : y < 64
+      node-below = rw dy (pass .numbered .low i (omega arith))
+
+      pub number-below : base + y < 128
+      number-below = omega (arith, node-below)
+
+      pub number-narrow : base + y < 256
+      number-narrow = omega (arith, node-below)
+
+      pub number-fits : Fits w64 (base + y)
+      number-fits = record { fits = omega (arith, node-below) }
+
+      -- and the byte offset of the number in its list
+      pub number-scaled : Fits w64 ((base + y) * 2)
+      number-scaled = record { fits = omega (arith, node-below) }
+
+-- ---- the entry of a reason
+module _ (labels to numbers room : List ℕ) (at : ℕ) (why : Reason) (put : Puttable labels to why) (fits : at + reasonBytes 1 ≤ length room) (p : Way)
+    (sp : Spells labels to numbers (why .first) p) where
+  pub way-short : why .first .len ≤ 60
+  way-short = omega (arith, put .first .numbered .short)
+
+  pub way-fits : StepsFit room (at + 3) (p .labels) (p .tests) (why .first .len)
+  way-fits =
+      let s = put .first .numbered .short in
+      record { labelled = omega (arith, sp .labelled); tested = omega (arith, sp .tested); inside = omega arith }
+
+  pub put-link : why .kind ≡ 4 → (room′ : List ℕ) (end : ℕ) → PutEntry room at (way (stepsGiven (p .labels) (p .tests) (why .first .len))) room′ end
+      → PutEntry room at (reasonEntry numbers (listed labels to why)) room′ end
+  unfolding reasonEntry pathOf
+  put-link e room′ end w =
+      rw (reason-link (viewOf [] labels to) why e) (rw (sp .steps, put .one e, one (why .first .links) (put .first .numbered .links)) at w)
+    where
+      one : (links : List ℕ) → length links ≡ 4 → take 1 links ≡ getD links 0 0 ∷ []
+      one [] h = absurd (omega arith)
+      one (k ∷ ks) h = refl
+
+  module _ (f : why .kind ≡ 4 → ⊥) where
+    pub pair-kind : 5 ≤ why .kind
+    pair-kind = omega (arith, put .known .0)
+
+    pub pair-most : why .kind ≤ 6
+    pair-most = put .known .1
+
+    pub pair-passable : Passable labels to (why .second)
+    pair-passable = put .two pair-kind
+
+    module _ (q : Way) (sq : Spells labels to numbers (why .second) q) where
+      pub ways-fit : WaysFit room (at + 4) (p .labels) (p .tests) (why .first .len) (q .labels) (q .tests) (why .second .len)
+      ways-fit =
+          let s = put .first .numbered .short in
+          let s′ = pair-passable .numbered .short in
+          record {
+            short = s;
+            short′ = s′;
+            first = record { labelled = omega (arith, sp .labelled); tested = omega (arith, sp .tested); inside = omega arith };
+            second = record { labelled = omega (arith, sq .labelled); tested = omega (arith, sq .tested); inside = omega arith };
+          }
+
+      pub put-pair : (room′ : List ℕ) (end : ℕ)
+          → PutEntry room at (entryWith (why .kind) 0 0 (stepsGiven (p .labels) (p .tests) (why .first .len)) (stepsGiven (q .labels) (q .tests) (why .second .len))) room′ end
+          → PutEntry room at (reasonEntry numbers (listed labels to why)) room′ end
+      unfolding reasonEntry entryWith
+      put-pair room′ end w =
+          let w′ = rw (sp .steps, sq .steps) at w in
+          ⊎-elim
+          (λ e. rw (reason-differ (viewOf [] labels to) why e) (rw e at w′))
+          (λ l. let e : why .kind ≡ 5 = omega (arith, pair-kind) in rw (reason-same (viewOf [] labels to) why e) (rw e at w′))
+          (eq-or-lt-of-le (put .known .1))
+
+-- ---- the entry and its denial
+-- the entry takes at most 28 bytes
+length-along : (numbers : List ℕ) (labels to w : List ℕ) → length (stepsAlong numbers (pathOf (viewOf [] labels to) w)) ≡ length w
+unfolding stepsAlong pathOf
+length-along numbers labels to [] = refl
+length-along numbers labels to (k ∷ w) = ap suc (length-along numbers labels to w)
+
+module _ (labels to numbers : List ℕ) (why : Reason) (put : Puttable labels to why) where
+  length-path : (path : Route) → Passable labels to path → length (stepsAlong numbers (pathIn (viewOf [] labels to) path)) ≤ 4
+  length-path path s =
+      omega (
+        arith,
+        length-along numbers labels to (take (path .len) (path .links)),
+        s .numbered .short,
+        length-take-le (path .len) (path .links) (omega (arith, s .numbered .short, s .numbered .links)),
+      )
+
+  reason-size : sizeOf (reasonEntry numbers (listed labels to why)) ≤ reasonBytes 1
+  unfolding reasonEntry sizeOf stepsAlong
+  reason-size =
+      ⊎-elim
+      (λ e. rw (reason-link (viewOf [] labels to) why (sym e)) (omega arith))
+      (λ l.
+      let p = length-path (why .first) (put .first) in
+      let q = length-path (why .second) (put .two l) in
+      ⊎-elim
+      (λ e. rw (reason-differ (viewOf [] labels to) why e) (omega arith))
+      (λ k. let e : why .kind ≡ 5 = omega arith in rw (reason-same (viewOf [] labels to) why e) (omega arith))
+      (eq-or-lt-of-le (put .known .1)))
+      (eq-or-lt-of-le (put .known .0))
+
+  module _ (room room₁ : List ℕ) (pen : Pen) (roomy : Roomy room pen 32 2) (mid : ℕ)
+      (w : PutEntry room (pen .at) (reasonEntry numbers (listed labels to why)) room₁ mid) where
+    first : Extends room room₁ pen (record { at = mid; next = pen .next + 1 }) 28 1 (λ es. es ++ (reasonEntry numbers (listed labels to why) ∷ []))
+    first =
+        extends-one room room₁ pen 28 mid _ (record { inside = omega (arith, roomy .inside); few = omega (arith, roomy .few) }) reason-size w
+
+    pub denial-fits : mid + 4 ≤ length room₁
+    denial-fits = omega (arith, roomy .inside, first .onward .size, first .bytesMost)
+
+    pub denied : (room₂ : List ℕ) (end : ℕ) → PutEntry room₁ mid (negation (pen .next)) room₂ end
+        → Denies room room₂ pen (record { at = end; next = pen .next + 2 }) (reasonEntry numbers (listed labels to why))
+    unfolding withDenial sizeOf
+    denied room₂ end w₂ =
+        let e = reasonEntry numbers (listed labels to why) in
+        let second = extends-one room₁ room₂ (record { at = mid; next = pen .next + 1 }) 4 end (negation (pen .next))
+        (record { inside = denial-fits; few = omega (arith, roomy .few) }) (omega arith) w₂ in
+        let t = extends-more first second in
+        record {
+          written = record {
+            grown = λ es p. record {
+              held = rw (← p .number) (t .grown es p .held);
+              number = omega (arith, p .number, length-append (es ++ (e ∷ [])) (negation (length es) ∷ []), length-append es (e ∷ []));
+            };
+            onward = t .onward;
+            bytesMost = omega (arith, t .bytesMost);
+            entriesMost = omega arith;
+          };
+        }
+
+-- ---- the pair
+module _ (room : List ℕ) (pen : Pen) (map : List ℕ) (place : ℕ) (labels to old new : List ℕ) (a b : ℕ) (why : Reason)
+    (fits : PartFits room pen map place labels to new a b why) where
+  pub denied-roomy : Roomy room pen 32 2
+  denied-roomy = record { inside = omega (arith, fits .roomy .inside); few = omega (arith, fits .roomy .few) }
+
+  module _ (room₁ : List ℕ) (pen₁ : Pen) where
+    pub name-fits : (e : Entry) → Denies room room₁ pen pen₁ e → NameFits room₁ pen₁ map place new a b
+    name-fits e y =
+        let x = y .written in
+        record {
+          roomy = record {
+            inside = omega (arith, fits .roomy .inside, x .onward .size, x .bytesMost);
+            few = omega (arith, fits .roomy .few, x .entriesMost);
+          };
+          inside = fits .inside;
+          leftCell = fits .leftCell;
+          rightCell = fits .rightCell;
+          wide = fits .wide;
+        }
+
+    module _ (room₂ : List ℕ) (pen₂ : Pen) (map′ new′ : List ℕ) where
+      abbrev before : Lists
+      before = lists room pen map old new
+
+      abbrev next : Lists
+      next = lists room₂ pen₂ map′ old new′
+
+      parted-named : (e : Entry) (i j : ℕ) (cause : Cause)
+          → ((m : ℕ) (now : State) → Shows before now → part m a b cause now ≡ write m a b e i j now) → Denies room room₁ pen pen₁ e
+          → Names room₁ room₂ pen₁ pen₂ map map′ place new new′ a b i j → Parted before next place a b cause
+      unfolding write
+      parted-named e i j cause is y n =
+          record {
+            next = λ m now d s.
+                let p = y .written .grown (now .entries) (s .entries) in
+                rw (is m now s)
+                (record {
+                  entries = rw (← s .newLeft, ← s .newRight) (n .written .grown (withDenial (now .entries) e) p);
+                  places = rw (← s .places, ← d) (n .marked);
+                  oldLeft = s .oldLeft;
+                  oldRight = s .oldRight;
+                  newLeft = rw (← s .newLeft) (n .left (withDenial (now .entries) e) p);
+                  newRight = rw (← s .newLeft, ← s .newRight) (n .right (withDenial (now .entries) e) p);
+                });
+            onward = onward-more (y .written .onward) (n .written .onward);
+            wide = n .wide;
+          }
+
+      pub parted-ahead : (forth : Bool) → forth ≡ true → Denies room room₁ pen pen₁ (reasonEntry (sideOf 0 old) (listed labels to why))
+          → Names room₁ room₂ pen₁ pen₂ map map′ place new new′ a b (pen .next) (pen .next + 1) → Parted before next place a b (causeIn labels to forth why)
+      unfolding part
+      parted-ahead forth h =
+          rw h (parted-named _ (pen .next) (pen .next + 1) (ahead (listed labels to why)) (λ m now s. rw (s .oldLeft, s .entries .number, add-one) refl))
+
+      pub parted-back : (forth : Bool) → forth ≡ false → Denies room room₁ pen pen₁ (reasonEntry (sideOf 64 old) (listed labels to why))
+          → Names room₁ room₂ pen₁ pen₂ map map′ place new new′ a b (pen .next + 1) (pen .next) → Parted before next place a b (causeIn labels to forth why)
+      unfolding part
+      parted-back forth h =
+          rw h (parted-named _ (pen .next + 1) (pen .next) (back (listed labels to why)) (λ m now s. rw (s .oldRight, s .entries .number, add-one) refl))

@@ -1,0 +1,4 @@
+pub mod Growing
+pub mod GrowingLaws
+pub mod Parting
+pub mod PartingLaws

@@ -1,0 +1,94 @@
+-- What follows for the entries and the map that a comparison leaves: demands 2 and 3 of its zeros and its other numbers, and that a sheet has room for
+-- the entries. (`Compared` of `Refining` is what code has to reach.)
+use mathlib.Core.Bool.{Bool, true, false, not, So, false≢true}
+use mathlib.Core.List.{List}
+use mathlib.Core.Logic.{_↔_, _≢_, Iff·trans}
+use mathlib.Core.Path.{_≡_, refl, sym, _∙_}
+use Prim.Native.Nat.{ℕ, _<_, _≤_}
+use native.Mathlib.Omega.{arith}
+use native.Mathlib.Nat.{mul-le-mul}
+use lib.ListN.{length}
+use Rattle.theory.specs.Expression.{NodeExpr, neg}
+use Rattle.theory.specs.Meaning.{holds}
+use Rattle.theory.specs.Bound.{Within, depth}
+use Rattle.theory.specs.Bisimulation.{Spoken, Greatest}
+use Rattle.theory.specs.Rounds.{related, settled}
+use Rattle.theory.specs.TestLaws.{eqb-iff, test-eq}
+use Rattle.theory.specs.GreatestLaws.{greatest}
+use Rattle.theory.specs.ClauseLaws.{apart}
+use Rattle.theory.specs.DescribingLaws.{agree-iff, keep-iff, after-ext}
+use Rattle.theory.specs.Parting.{Simplest}
+use Rattle.sheet.specs.Entry.{Entry, expression}
+use Rattle.sheet.specs.Encoding.{sheetBytes}
+use Rattle.sheet.specs.WrittenLaws.{Writable, written-length}
+use Rattle.compare_laws.specs.Places.{placed, unparted, zeroPairs}
+use Rattle.compare_laws.specs.PlaceLaws.{nonzeros-most, among-inside, among-at}
+use Rattle.compare_laws.specs.Setting.{Setting, pairs}
+use Rattle.compare_laws.specs.Room.{roomNeeded}
+use Rattle.compare_laws.specs.Refining.{Comparable, Compared}
+
+module _ {s : Setting} {es : List Entry} {map : List ℕ} (g : Comparable s) (t : Compared s es map) where
+  -- They are what the rounds settle to, that is two-sided the matched pairs.
+  pub zeroPairs-settled : zeroPairs (s .left) (s .right) map ≡ related (settled (s .sides) (s .left) (s .right) (s .bound))
+  unfolding settled
+  zeroPairs-settled =
+      after-ext (s .sides) (s .bound) (g .formed .0) (g .formed .1) (pairs s) (zeroPairs (s .left) (s .right) map) (among-inside (s .left .size) (s .right .size) (unparted (s .right .size) map))
+      (λ a b o u. among-at (s .left .size) (s .right .size) (unparted (s .right .size) map) a b o u
+      ∙ test-eq _ _ (λ e. t .zeros a b o u .0 (eqb-iff _ 0 .0 e)) (λ e. eqb-iff _ 0 .1 (t .zeros a b o u .1 e)))
+
+  -- Demand 2: the pairs whose place holds 0 are the greatest (bi)simulation for the bound.
+  pub zeroPairs-greatest : Greatest (s .sides) (s .left) (s .right) (s .bound) (zeroPairs (s .left) (s .right) map)
+  zeroPairs-greatest = rw zeroPairs-settled (greatest (s .sides) (s .bound) (g .formed .0) (g .formed .1))
+
+  module _ (a b : ℕ) (o : a < s .left .size) (u : b < s .right .size) where
+    -- A place holds 0 exactly when every node expression within the bound (without "not", one-sided) that is true at the left node is at the right one.
+    pub zero-keeps : (placed (s .right .size) map a b ≡ 0) ↔ ((q : NodeExpr) → Within (s .bound) q → Spoken (s .sides) q → holds (s .left) q a ≡ true → holds (s .right) q b ≡ true)
+    zero-keeps = Iff·trans (t .zeros a b o u) (keep-iff (s .sides) (s .bound) (g .formed .0) (g .formed .1) a b o u)
+
+-- two tests are equal where the first makes the second pass, and its failure makes the second fail
+test-eq-not : (x y : Bool) → (So x → So y) → (So (not x) → So (not y)) → x ≡ y
+test-eq-not true y f g = sym (f refl)
+test-eq-not false true f g = absurd (false≢true (g refl))
+test-eq-not false false f g = refl
+
+module _ {s : Setting} {es : List Entry} {map : List ℕ} (g : Comparable s) (t : Compared s es map) (a b : ℕ) (o : a < s .left .size) (u : b < s .right .size) where
+  -- Demand 3: a place holds 0 exactly when every node expression within the bound, of any size, has one truth at both nodes;
+  pub zero-agrees : (placed (s .right .size) map a b ≡ 0) ↔ ((q : NodeExpr) → Within (s .bound) q → holds (s .left) q a ≡ holds (s .right) q b)
+  zero-agrees = Iff·trans (t .zeros a b o u) (rw (g .both) (agree-iff (s .bound) (g .formed .0) (g .formed .1) a b o u))
+
+  -- and another number is that of an entry, whose expression keeps to the bound, is true at the left node and false at the right one, and is no deeper than
+  -- left nodes × right nodes. None that tells the nodes apart is less deep.
+  pub nonzero-simplest : placed (s .right .size) map a b ≢ 0
+      → (placed (s .right .size) map a b < length es) × (depth (expression es (placed (s .right .size) map a b)) ≤ pairs s)
+      × Simplest (s .left) (s .right) (s .bound) a b (expression es (placed (s .right .size) map a b))
+  unfolding Within depth holds
+  nonzero-simplest e =
+      let p = t .parts a b o u e in
+      let least = t .least a b o u e in (
+        t .number a b o u e,
+        p .shallow,
+        record {
+          within = p .within;
+          left = p .left;
+          right = p .right;
+          least = λ q w d. test-eq-not _ _ (least q w (λ i. apart i (g .both)) d) (least (neg q) w (λ i. apart i (g .both)) d);
+        },
+      )
+
+-- ---- the sheet
+
+module _ {s : Setting} {es : List Entry} {map : List ℕ} (g : Comparable s) (t : Compared s es map) where
+  -- Between graphs of at most 64 nodes a sheet can hold the entries (and so is accepted: `WrittenLaws` of the crate `sheet`),
+  pub compared-writable : Writable (s .bound) es
+  compared-writable =
+      record {
+        bounded = g .bound;
+        some = t .sheet .some;
+        few = omega (arith, t .few, nonzeros-most map, t .size, mul-le-mul (g .small .0) (g .small .1));
+        formed = t .sheet .formed;
+        labelled = t .sheet .labelled;
+      }
+
+  -- and it has room in the bytes that 01 asks for.
+  pub compared-room : length (sheetBytes (s .bound) es) ≤ roomNeeded (s .version) (pairs s)
+  compared-room = omega (arith, t .room, nonzeros-most map, t .size, written-length compared-writable)

@@ -1,0 +1,211 @@
+-- What the step for a parted pair writes is as the invariant asks. (The step writes denials, so it is that of the two-sided comparison.)
+use mathlib.Core.Bool.{So, false≢true}
+use mathlib.Core.List.{List, [], _∷_, _++_}
+use mathlib.Core.Logic.{_≢_, inl, inr, ⊎-elim}
+use mathlib.Core.Path.{_≡_, refl, sym, ap, _∙_}
+use Prim.Native.Nat.{ℕ, zero, suc, _+_, _*_, _<_, _≤_}
+use native.Mathlib.Omega.{arith}
+use native.Mathlib.Nat.{le-refl}
+use lib.ListN.{length, getD, set}
+use Rattle.theory.specs.Graph.{Graph, WellFormed}
+use Rattle.theory.specs.Expression.{NodeExpr, neg, conj, always}
+use Rattle.theory.specs.Bisimulation.{Relation, flip, Sides}
+use Rattle.theory.specs.Parting.{Parts, Describes, Reason, Fails}
+use Rattle.theory.specs.PartingLaws.{parting, part-back}
+use Rattle.theory.specs.DescribingLaws.{always-holds, conj-describes}
+use Rattle.sheet.specs.Entry.{Entry, negation, conjunction, spell, expressions, expression}
+use Rattle.sheet.specs.ExpressionLaws.{expression-front, expression-last}
+use Rattle.sheet.specs.Sheet.{mostBound}
+use Rattle.sheet.specs.Encoding.{encode}
+use Rattle.sheet.specs.WrittenLaws.{sizeOf}
+use Rattle.compare_laws.specs.Places.{unparted}
+use Rattle.compare_laws.specs.PlaceLaws.{eq-or-ne, place-row, place-column, placed-other}
+use Rattle.compare_laws.specs.Setting.{Setting, swapped, relationAfter}
+use Rattle.compare_laws.specs.Entries.{Sheet, Fit, Grows, Narrow}
+use Rattle.compare_laws.specs.EntryLaws.{grows-refl, grows-append, grows-trans, sheet-snoc, expression-zero, length-snoc, length-encode-snoc, fit-negation, fit-conjunction, spell-reasonEntry, size-reasonEntry, fit-reasonEntry}
+use Rattle.compare_laws.specs.Room.{reasonBytes}
+use Rattle.compare_laws.specs.Comparison.{State, Cause, ahead, back, withDenial, conjoined, conjoint, write, part, partedBy, verdict, obey, settle, reasonEntry}
+use Rattle.compare_laws.specs.Refining.{Comparable, Caused, PartsPair, DescribesNode, DescribedBy, Redescribed, Refined}
+use Rattle.compare_laws.specs.StepLaws.{describes-more, described-more, redescribed-more, written-refined}
+
+-- ---- "i and j"
+
+-- "i and j" is written, and describes x.
+record Conjoined (s : Setting) (d : ℕ) (z : Relation) (x : ℕ) (es : List Entry) (i j : ℕ) : Type 0 where
+  sheet : Sheet (s .bound) (conjoined es i j)
+  grows : Grows es (conjoined es i j)
+  few : length (conjoined es i j) ≤ length es + 1
+  room : length (encode (conjoined es i j)) ≤ length (encode es) + 6
+  here : (xs : List ℕ) → Redescribed s d z (conjoined es i j) xs (set xs x (conjoint es i j)) x
+
+-- what parts x from b describes x among b alone
+parts-describes : {s : Sides} {l r : Graph} {c d x b : ℕ} (z : Relation) {q : NodeExpr} → Parts s l r c d x b q → Describes s l r c d z x (λ y. y ≡ b) q
+parts-describes z t =
+    record {
+      within = t .within;
+      spoken = t .spoken;
+      shallow = t .shallow;
+      own = t .left;
+      only = λ y v h. absurd (false≢true (sym (t .right) ∙ (rw v at h)));
+    }
+
+module _ {s : Sides} {l r : Graph} {c d x b : ℕ} {z : Relation} (z′ : Relation) (less : (y : ℕ) → y < r .size → y ≢ b → So (z x y) → So (z′ x y)) where
+  -- besides what describes x for a relation, what parts x from b describes it without b
+  conj-narrower : {q p : NodeExpr} → Describes s l r c d z x (λ y. y < r .size) q → Parts s l r c d x b p
+      → Describes s l r c d z′ x (λ y. y < r .size) (conj q p)
+  conj-narrower t p =
+      conj-describes {A = λ y. (y < r .size) × (y ≢ b)} (λ y u. ⊎-elim inr (λ e. inl (u, e)) (eq-or-ne y b))
+      (describes-more (le-refl d) refl (λ y u. (u .0, less y (u .0) (u .1))) t) (parts-describes z′ p)
+
+  -- and alone, where always true describes x
+  parts-narrower : {p : NodeExpr} → Describes s l r c d z x (λ y. y < r .size) always → Parts s l r c d x b p
+      → Describes s l r c d z′ x (λ y. y < r .size) p
+  parts-narrower t p =
+      record {
+        within = p .within;
+        spoken = p .spoken;
+        shallow = p .shallow;
+        own = p .left;
+        only = λ y u e. less y u (λ v. false≢true (sym (p .right) ∙ (rw v at e))) (t .only y u (always-holds r y u));
+      }
+
+module _ {s : Setting} {d x b : ℕ} {z : Relation} (z′ : Relation) (less : (y : ℕ) → y < s .right .size → y ≢ b → So (z x y) → So (z′ x y)) where
+  conjoined-describes : {es : List Entry} (i j : ℕ) → Sheet (s .bound) es → i < length es → j < length es
+      → DescribesNode s d z x (λ y. y < s .right .size) (expression es i) → PartsPair s d x b (expression es j) → Conjoined s d z′ x es i j
+  unfolding conjoined conjoint spell sizeOf
+  conjoined-describes {es} zero j w h h′ t p =
+      record {
+        sheet = w;
+        grows = grows-refl es;
+        few = omega arith;
+        room = omega arith;
+        here = λ xs. record { entry = j; is = refl; number = h′; describes = parts-narrower z′ less (rw (expression-zero w) at t) p };
+      }
+  conjoined-describes {es} (suc i) j w h h′ t p =
+      let e = conjunction (suc i) j in
+      record {
+        sheet = sheet-snoc w e (fit-conjunction h h′);
+        grows = grows-append es (e ∷ []);
+        few = omega (arith, length-snoc es e);
+        room = omega (arith, length-encode-snoc es e);
+        here = λ xs. record {
+          entry = length es;
+          is = refl;
+          number = omega (arith, length-snoc es e);
+          describes = rw (expression-last es e) (conj-narrower z′ less t p);
+        };
+      }
+
+-- ---- an entry and its denial
+
+-- They are written.
+record Denied (c : ℕ) (es : List Entry) (e : Entry) : Type 0 where
+  sheet : Sheet c (withDenial es e)
+  grows : Grows es (withDenial es e)
+  many : length (withDenial es e) ≡ length es + 2
+  room : length (encode (withDenial es e)) ≡ length (encode es) + (sizeOf e + 4)
+  first : expression (withDenial es e) (length es) ≡ spell (expressions es) e
+  second : expression (withDenial es e) (suc (length es)) ≡ neg (spell (expressions es) e)
+
+withDenial-denied : {c : ℕ} {es : List Entry} (e : Entry) → Sheet c es → Fit c (length es) e → Denied c es e
+unfolding withDenial spell sizeOf
+withDenial-denied {c} {es} e w f =
+    let es′ = es ++ (e ∷ []) in
+    let d = negation (length es) in
+    let n = length-snoc es e in
+    record {
+      sheet = sheet-snoc (sheet-snoc w e f) d (fit-negation (omega arith));
+      grows = grows-trans (grows-append es (e ∷ [])) (grows-append es′ (d ∷ []));
+      many = omega (arith, length-snoc es′ d);
+      room = omega (arith, length-encode-snoc es′ d, length-encode-snoc es e);
+      first = expression-front es′ (d ∷ []) (length es) (omega arith) ∙ expression-last es e;
+      second = rw (← n) (rw (expression-last es′ d) (ap neg (expression-last es e)));
+    }
+
+-- The entry may stand after es, is not too long, and parts a from b.
+record Puts (s : Setting) (d a b : ℕ) (es : List Entry) (e : Entry) : Type 0 where
+  fit : Fit (s .bound) (length es) e
+  size : sizeOf e ≤ reasonBytes (s .version)
+  parts : PartsPair s d a b (spell (expressions es) e)
+
+-- So does the entry that puts a reason.
+reasonEntry-puts : {s : Setting} {k a b : ℕ} {z : Relation} {es : List Entry} {xs : List ℕ} → WellFormed (s .left) → Narrow (s .left) → s .bound ≤ mostBound
+    → a < s .left .size → Sheet (s .bound) es → DescribedBy s k z es xs → (why : Reason) → Fails (s .left) (s .right) (s .bound) z a b why
+    → Puts s (suc k) a b es (reasonEntry xs why)
+reasonEntry-puts {s} {k} {a} {b} {z} {es} {xs} w narrow small o sheet t why f =
+    record {
+      fit = fit-reasonEntry w narrow (length es) xs (sheet .some) (t .earlier) (s .right) (s .bound) z a b why f;
+      size = size-reasonEntry xs (s .version) (s .left) (s .right) (s .bound) z a b why small f;
+      parts = rw spell-reasonEntry (parting w (t .describes) why a b o f);
+    }
+
+-- ---- the step
+
+module _ {s : Setting} {k a b : ℕ} {now : State} (g : Comparable s) (inv : Refined s k (a * s .right .size + b) now) (o : a < s .left .size)
+    (u : b < s .right .size) (e : So (relationAfter s k a b)) where
+  -- an entry and its denial, of which i parts a from b and j parts b from a
+  write-refined : (d : Entry) (i j : ℕ) → Denied (s .bound) (now .entries) d → sizeOf d ≤ reasonBytes (s .version) → length (now .entries) ≤ i
+      → i < length (now .entries) + 2 → j < length (now .entries) + 2
+      → PartsPair s (suc k) a b (expression (withDenial (now .entries) d) i)
+      → PartsPair (swapped s) (suc k) b a (expression (withDenial (now .entries) d) j)
+      → settle s (relationAfter s k) a b now ≡ write (s .right .size) a b d i j now
+      → Refined s k (suc (a * s .right .size + b)) (write (s .right .size) a b d i j now)
+  unfolding write
+  write-refined d i j t size fresh h h′ p p′ q =
+      written-refined g inv o u {i = i} e (record {
+        sheet = jr .sheet;
+        grows = grows-trans (t .grows) (grows-trans (jl .grows) (jr .grows));
+        few = omega (arith, jl .few, jr .few, t .many);
+        room = omega (arith, jl .room, jr .room, t .room);
+        map = refl;
+        fresh = fresh;
+        number = omega (arith, jl .grows .longer, jr .grows .longer, t .many);
+        parts = rw (grows-trans (jl .grows) (jr .grows) .same i (omega (arith, t .many))) p;
+        oldLeft = refl;
+        oldRight = refl;
+        newLeft = redescribed-more (jr .grows) (jl .here (now .newLeft));
+        newRight = λ _. jr .here (now .newRight);
+      }) q
+    where
+      es : List Entry
+      es = withDenial (now .entries) d
+
+      es′ : List Entry
+      es′ = conjoined es (getD (now .newLeft) a 0) i
+
+      z′ : Relation
+      z′ = unparted (s .right .size) (set (now .map) (a * s .right .size + b) i)
+
+      still : (x y : ℕ) → x * s .right .size + y ≢ a * s .right .size + b → So (unparted (s .right .size) (now .map) x y) → So (z′ x y)
+      still x y q v = rw (placed-other (s .right .size) (now .map) a b i x y q) v
+
+      left : DescribedBy s (suc k) (unparted (s .right .size) (now .map)) es (now .newLeft)
+      left = described-more (le-refl _) (t .grows) (λ x y _ _ h. h) (inv .newLeft)
+
+      jl : Conjoined s (suc k) z′ a es (getD (now .newLeft) a 0) i
+      jl =
+          conjoined-describes z′ (λ y v q. still a y (λ w. q (place-column _ a y a b v u w))) _ i (t .sheet) (left .earlier a o) (omega (arith, t .many))
+          (left .describes a o) p
+
+      right : DescribedBy (swapped s) (suc k) (flip (unparted (s .right .size) (now .map))) es′ (now .newRight)
+      right = described-more (le-refl _) (grows-trans (t .grows) (jl .grows)) (λ x y _ _ h. h) (inv .newRight (g .both))
+
+      jr : Conjoined (swapped s) (suc k) (flip z′) b es′ (getD (now .newRight) b 0) j
+      jr =
+          conjoined-describes (flip z′) (λ x v q. still x b (λ w. q (place-row _ x b a b u u w))) _ j (jl .sheet) (right .earlier b u)
+          (omega (arith, t .many, jl .grows .longer)) (right .describes b u) (rw (jl .grows .same j (omega (arith, t .many))) p′)
+
+  -- the step for a pair that is parted keeps the invariant
+  pub part-refined : (why : Cause) → Caused s (relationAfter s k) a b why → verdict s (relationAfter s k) a b ≡ partedBy why
+      → Refined s k (suc (a * s .right .size + b)) (part (s .right .size) a b why now)
+  unfolding part settle obey
+  part-refined (ahead why) f v =
+      let n = length (now .entries) in
+      let t = reasonEntry-puts (g .formed .0) (g .narrow .0) (g .bound) o (inv .sheet) (inv .oldLeft) why f in
+      let d = withDenial-denied (reasonEntry (now .oldLeft) why) (inv .sheet) (t .fit) in
+      write-refined _ n (suc n) d (t .size) (omega arith) (omega arith) (omega arith) (rw (d .first) (t .parts)) (rw (d .second) (part-back (g .both) (t .parts))) (rw (e, v))
+  part-refined (back why) f v =
+      let n = length (now .entries) in
+      let t = reasonEntry-puts {s = swapped s} (g .formed .1) (g .narrow .1) (g .bound) u (inv .sheet) (inv .oldRight (g .both)) why f in
+      let d = withDenial-denied (reasonEntry (now .oldRight) why) (inv .sheet) (t .fit) in
+      write-refined _ (suc n) n d (t .size) (omega arith) (omega arith) (omega arith) (rw (d .second) (part-back (g .both) (t .parts))) (rw (d .first) (t .parts)) (rw (e, v))

@@ -1,0 +1,106 @@
+-- What each function of the crate shows of the definitions of `specs/`, in the form in which `search` finds it.
+use mathlib.Core.List.{List}
+use mathlib.Core.Path.{_≡_, refl, ap, _∙_}
+use Prim.Native.Nat.{ℕ, _≤_}
+use native.Mathlib.Omega.{arith}
+use mir.Syntax.{w8}
+use mir.Val.{Fits}
+use lib.ListN.{length, getD, replicate}
+use lib.Seq.{length-sets}
+use Rattle.theory.specs.Graph.{same, differ}
+use Rattle.book.specs.Book.{cellsOf, linksOf, bookRefusal}
+use Rattle.book.specs.AcceptedLaws.{book-sizes}
+use Rattle.edges.specs.BookEdges.{Loaded, passing}
+use Rattle.search_links.specs.Hops.{Starts}
+use Rattle.search_links.specs.Sets.{Paired}
+use Rattle.sheet.specs.Entry.{truth}
+use Rattle.sheet.specs.Encoding.{encodeEntry}
+use Rattle.sheet.specs.WrittenLaws.{sizeOf}
+use Rattle.sheet_writer.specs.Writing.{PutEntry}
+use Rattle.sheet_writer.specs.WritingLaws.{holding-none, holding-next, kept-after}
+use Rattle.search.specs.BookReasonLaws.{read-charted}
+use Rattle.compare_laws.specs.Comparison.{begin, upto, states}
+use Rattle.compare_entries.specs.declared.Pen.{Pen}
+use Rattle.compare_pair.specs.Settling.{chart, Ground, Standing}
+use Rattle.compare_rounds.specs.Turns.{atRest, Opens, Refines}
+use Rattle.compare_lists.specs.BookSetting.{settingOf}
+use Rattle.compare_lists.specs.Laws.{books-comparable}
+use Rattle.compare_lists.specs.Comparing.{IsRead, Lent, Started, Fills}
+
+-- ---- a book, read
+
+pub read-whole : (s fs ls ts starts ends alike unlike : List ℕ) (count : ℕ) → bookRefusal s ≡ 0 → Loaded s fs ls ts → count ≡ linksOf s
+    → Starts count fs starts → alike ≡ passing s same → unlike ≡ passing s differ → Paired alike unlike ends → IsRead s ls ts starts ends
+read-whole s fs ls ts starts ends alike unlike count r d n t a u p =
+    record { from = fs; read = record { accepted = r; loaded = d; table = rw n at t; rows = rw (a, u) at p } }
+
+-- ---- the first entry
+
+module _ {map map′ room room′ : List ℕ} {at : ℕ} where
+  pub started : 10 ≤ length room → map′ ≡ replicate (length map) 0 → PutEntry room 8 truth room′ at → Started map map′ room room′ (record { at = at; next = 1 })
+  unfolding sizeOf
+  started h b w =
+      record {
+        blank = b;
+        penned = record { held = holding-next (holding-none room (omega arith)) truth w (omega arith); number = refl };
+        behind = record { size = ap length (w .left) ∙ length-sets room 8 (encodeEntry truth); kept = kept-after (holding-none room (omega arith)) truth w (omega arith) };
+      }
+
+-- ---- the comparison
+
+module _ {left right : List ℕ} {c : ℕ} {map room : List ℕ} (given : Lent left right c map room) where
+  pub left-long : 8 ≤ length left
+  left-long = book-sizes left (given .leftAccepted) .long
+
+  pub right-long : 8 ≤ length right
+  right-long = book-sizes right (given .rightAccepted) .long
+
+  -- the lists are those of the books' setting
+  ground : {sa la ta ea sb lb tb eb : List ℕ} {n m : ℕ} → ((i : ℕ) → Fits w8 (getD left i 0)) → ((i : ℕ) → Fits w8 (getD right i 0))
+      → IsRead left la ta sa ea → IsRead right lb tb sb eb → n ≡ cellsOf left → m ≡ cellsOf right
+      → Ground (settingOf left right c) (chart sa la ta ea) (chart sb lb tb eb) (record { left = n; right = m; bound = c })
+  ground f g x y dn dm =
+      record {
+        comparable = books-comparable left right c (record { each = λ i. f i .fits }) (record { each = λ i. g i .fits }) (given .leftAccepted) (given .rightAccepted)
+            (given .bound);
+        left = read-charted left (x .from) _ _ _ _ (x .read);
+        right = read-charted right (y .from) _ _ _ _ (y .read);
+        leftSize = dn;
+        rightSize = dm;
+        bound = refl;
+      }
+
+  module _ {map′ room′ : List ℕ} {pen : Pen} (first : Started map map′ room room′ pen) where
+    standing : Standing (settingOf left right c) 0 0 (atRest room′ pen map′ (replicate 128 0))
+    unfolding upto states begin
+    standing =
+        record {
+          shows = record {
+            entries = first .penned;
+            places = first .blank ∙ ap (λ n. replicate n 0) (given .places);
+            oldLeft = refl;
+            oldRight = refl;
+            newLeft = refl;
+            newRight = refl;
+          };
+          wide = refl;
+          roomy = rw (first .behind .size) (given .roomy);
+        }
+
+    module _ {sa la ta ea sb lb tb eb : List ℕ} {n m : ℕ} (f : (i : ℕ) → Fits w8 (getD left i 0)) (g : (i : ℕ) → Fits w8 (getD right i 0))
+        (x : IsRead left la ta sa ea) (y : IsRead right lb tb sb eb) (dn : n ≡ cellsOf left) (dm : m ≡ cellsOf right) where
+      pub opened : Opens (chart sa la ta ea) (chart sb lb tb eb) (record { left = n; right = m; bound = c }) (atRest room′ pen map′ (replicate 128 0))
+      opened = record { setting = settingOf left right c; before = 0; ground = ground f g x y dn dm; standing = standing }
+
+      pub filled : {map″ room″ new : List ℕ} {pen′ : Pen}
+          → Refines (chart sa la ta ea) (chart sb lb tb eb) (record { left = n; right = m; bound = c }) (atRest room′ pen map′ (replicate 128 0)) (atRest room″ pen′ map″ new)
+          → Fills left right c room room″ pen′ map″
+      filled t =
+          record {
+            comparable = ground f g x y dn dm .comparable;
+            finished = t .finished _ 0 (ground f g x y dn dm) standing;
+            behind = record {
+              size = t .onward .size ∙ first .behind .size;
+              kept = λ n h. t .onward .kept n h ∙ first .behind .kept n (omega (arith, t .onward .further));
+            };
+          }

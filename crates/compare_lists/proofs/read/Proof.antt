@@ -1,0 +1,39 @@
+-- `compare_lists::read` meets its contract.
+use borrow.Author.Needs.{needs}
+use Rattle.book.specs.AcceptedLaws.{book-long}
+use Rattle.compare_lists.proofs.Exits.{read-whole}
+use Rattle.compare_lists.proofs.read.Statement.{statement}
+use Rattle.compare_lists.proofs.read.Tie as tie
+
+load-requires : tie.Need-load-requires
+load-requires c κs = search needs
+
+links-of-requires : tie.Need-links-of-requires
+links-of-requires c κs = search book-long
+
+starts-requires : tie.Need-starts-requires
+starts-requires c κs = search needs
+
+passing-requires : tie.Need-passing-requires
+passing-requires c κs = search needs
+
+passing-requires-2 : tie.Need-passing-requires-2
+passing-requires-2 c κs = search needs
+
+paired-requires : tie.Need-paired-requires
+paired-requires c κs = search needs
+
+returns : tie.Need-returns
+returns c = search read-whole
+
+pub read-spec : {M : Type 1} → statement M
+read-spec =
+    tie.close
+    (tie.spec
+    load-requires
+    links-of-requires
+    starts-requires
+    passing-requires
+    passing-requires-2
+    paired-requires
+    returns)

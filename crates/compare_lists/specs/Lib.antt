@@ -1,0 +1,3 @@
+pub mod BookSetting
+pub mod Comparing
+pub mod Laws

@@ -1,0 +1,82 @@
+// Two accepted books compared into lent lists: the books are read into arrays once, the first entry is written, and rounds are taken until one parts no
+// pair.
+ghost use mathlib.Core.Path.{_≡_};
+ghost use Prim.Native.Nat.{_≤_};
+ghost use lib.ListN.{length};
+ghost use Rattle.book.specs.Book.{bookRefusal};
+ghost use Rattle.compare_lists.specs.Comparing.{IsRead, Lent, Started, Fills};
+use compare_entries::Pen;
+use compare_pair::Sizes;
+
+// Reads an accepted book: the labels of its links and the cells that they lead to, where the links out of each cell begin, and for each cell the cells that
+// pass each comparison with it.
+fn read(
+    book: &[u8],
+    starts: &mut [u16; 65],
+    labels: &mut [u16; 512],
+    to: &mut [u8; 512],
+    ends: &mut [u64; 128],
+)
+    requires { ⌜ (bookRefusal (now book) ≡ 0) × (length (now labels) ≡ 512) × (length (now to) ≡ 512) ⌝ }
+    ensures { λ _. ⌜ IsRead (now (book .entry)) (now (labels .exit)) (now (to .exit)) (now (starts .exit)) (now (ends .exit)) ⌝ }
+{
+    let mut from = [0u8; 512];
+    edges::load(book, &mut from, labels, to);
+    let count = book::links_of(book);
+    *starts = search_links::starts(count, &from);
+    let same = edges::passing(book, edges::Comparison::Same);
+    let differ = edges::passing(book, edges::Comparison::Differ);
+    *ends = search_links::paired(&same, &differ);
+}
+
+// Writes the first entry, always true, and clears the map.
+fn begin(map: &mut [u16], room: &mut [u8]) -> Pen
+    requires { ⌜ 10 ≤ length (now room) ⌝ }
+    ensures { λ r. ⌜ Started (now (map .entry)) (now (map .exit)) (now (room .entry)) (now (room .exit)) r ⌝ }
+{
+    compare_map::clear_map(map);
+    let at = sheet_writer::put_true(room, 8);
+    Pen { at: at, next: 1 }
+}
+
+// Compares two accepted books: fills the map, and the room with the sheet's entries behind a header that is still to be written. The answer says where the
+// sheet ends and how many entries it has.
+pub fn fill(left: &[u8], right: &[u8], bound: u8, map: &mut [u16], room: &mut [u8]) -> Pen
+    requires { ⌜ Lent (now left) (now right) bound (now map) (now room) ⌝ }
+    ensures { λ r. ⌜ Fills (now (left .entry)) (now (right .entry)) bound (now (room .entry)) (now (room .exit)) r (now (map .exit)) ⌝ }
+{
+    let mut sa = [0u16; 65];
+    let mut la = [0u16; 512];
+    let mut ta = [0u8; 512];
+    let mut ea = [0u64; 128];
+    read(left, &mut sa, &mut la, &mut ta, &mut ea);
+    let mut sb = [0u16; 65];
+    let mut lb = [0u16; 512];
+    let mut tb = [0u8; 512];
+    let mut eb = [0u64; 128];
+    read(right, &mut sb, &mut lb, &mut tb, &mut eb);
+    let n = book::cells_of(left);
+    let m = book::cells_of(right);
+    let sizes = Sizes {
+        left: n,
+        right: m,
+        bound,
+    };
+    let pen = begin(map, room);
+    let mut new = [0u16; 128];
+    compare_rounds::refine(
+        &sa,
+        &la,
+        &ta,
+        &ea,
+        &sb,
+        &lb,
+        &tb,
+        &eb,
+        room,
+        pen,
+        map,
+        &mut new,
+        sizes,
+    )
+}

@@ -1,0 +1,127 @@
+-- What each turn and each way out of the functions shows of the definitions of `specs/`. The numbers that the code computed are variables
+-- here, with what is known of them, so that `search` finds them in a need's record.
+use mathlib.Core.Bool.{Bool, false, So, cond}
+use mathlib.Core.List.{List, _∷_}
+use mathlib.Core.Logic.{⊎-elim}
+use mathlib.Core.Path.{_≡_, refl, sym, ap, _∙_}
+use Prim.Native.Nat.{ℕ, zero, suc, _+_, _-_, _^_, _≤_, _<_}
+use native.Mathlib.Nat.{eq-or-lt-of-le}
+use native.Mathlib.Numerals.{add-one}
+use native.Mathlib.Omega.{arith}
+use lib.Bits.{bitOr}
+use lib.ListN.{length, getD, set, drop, replicate, length-set, length-replicate, getD-replicate}
+use lib.Seq.{drop-cons, drop-length, ext-getD, getD-set-same, getD-set-other}
+use Rattle.words.specs.Words.{bit, wordOf}
+use Rattle.words.specs.Laws.{wordOf-suc}
+use Rattle.edges.specs.Edges.{emptyRows}
+use Rattle.edges.specs.Laws.{rows-none, rows-more}
+use Rattle.answers.specs.Row.{rowWord, rowAnswer, wordIn}
+use Rattle.answers.specs.RowLaws.{row-given}
+use Rattle.compare_laws.specs.Places.{zeros}
+use Rattle.compare_laws.specs.PlaceLaws.{place-below}
+use Rattle.compare_map.specs.Relation.{Mapped, rowsOf, columnOf, columnsOf}
+
+-- ---- the rows
+module _ (map : List ℕ) (m : ℕ) where
+  pub rows-start : replicate 64 0 ≡ rowsOf map 0 m
+  unfolding rowsOf emptyRows
+  rows-start = rows-none 64 _
+
+  module _ (n i : ℕ) (rows : List ℕ) (inv : rows ≡ rowsOf map i m) where
+    pub rows-next : Mapped map n m → i < n → (v : ℕ) → v ≡ wordIn (rowAnswer map m i) → set rows i v ≡ rowsOf map (i + 1) m
+    unfolding rowsOf
+    rows-next w h v d =
+        let e : v ≡ rowWord map m i = d ∙ ap wordIn (row-given map m i (record {
+          some = w .some;
+          most = w .most;
+          inside = omega (arith, w .size, w .some, place-below n m i (m - 1) h (omega (arith, w .some)));
+        })) in
+        rw (inv, e) (rows-more 64 i (rowWord map m))
+
+    pub rows-all : i ≤ n → n ≤ i → rows ≡ rowsOf map n m
+    rows-all h l = let e : i ≡ n = omega arith in rw e at inv
+
+-- ---- a column
+module _ (rows : List ℕ) where
+  module _ (j : ℕ) where
+    pub column-start : 0 ≡ columnOf rows 0 j
+    unfolding columnOf wordOf
+    column-start = refl
+
+    module _ (i out next : ℕ) (inv : out ≡ columnOf rows i j) (b : Bool) (d : b ≡ bit (getD rows i 0) j) where
+      more : columnOf rows (i + 1) j ≡ cond b (bitOr out (2 ^ i)) out
+      unfolding columnOf
+      more = rw (add-one i, inv) (wordOf-suc i _ ∙ rw (← d))
+
+      pub column-more : So b → (joined : ℕ) → joined ≡ bitOr out (2 ^ i) → next ≡ joined → next ≡ columnOf rows (i + 1) j
+      column-more e joined u v = v ∙ u ∙ sym (rw e at more)
+
+      pub column-skip : b ≡ false → next ≡ out → next ≡ columnOf rows (i + 1) j
+      column-skip e v = v ∙ sym (rw e at more)
+
+    pub column-all : (n i out : ℕ) → out ≡ columnOf rows i j → i ≤ n → n ≤ i → out ≡ columnOf rows n j
+    column-all n i out inv h l = let e : i ≡ n = omega arith in rw e at inv
+
+  -- ---- the columns
+  module _ (n : ℕ) where
+    pub columns-start : replicate 64 0 ≡ columnsOf rows n 0
+    unfolding columnsOf emptyRows
+    columns-start = rows-none 64 _
+
+    module _ (j : ℕ) (columns : List ℕ) (inv : columns ≡ columnsOf rows n j) where
+      pub columns-next : (v : ℕ) → v ≡ columnOf rows n j → set columns j v ≡ columnsOf rows n (j + 1)
+      unfolding columnsOf
+      columns-next v d = rw (inv, d) (rows-more 64 j (columnOf rows n))
+
+      pub columns-all : (m : ℕ) → j ≤ m → m ≤ j → columns ≡ columnsOf rows n m
+      columns-all m h l = let e : j ≡ m = omega arith in rw e at inv
+
+-- ---- the zeros
+-- `count` zeros were met before place k
+module _ (map : List ℕ) (k count next : ℕ) (h : k < length map) (inv : count + zeros (drop k map) ≡ zeros map) where
+  rest-more : drop k map ≡ getD map k 0 ∷ drop (k + 1) map
+  rest-more = rw (add-one, drop-cons map k 0)
+
+  pub zeros-more : getD map k 0 ≡ 0 → next ≡ count + 1 → next + zeros (drop (k + 1) map) ≡ zeros map
+  unfolding zeros
+  zeros-more z d = let e = rw (rest-more, z) at inv in omega arith
+
+  pub zeros-skip : (getD map k 0 ≡ 0 → ⊥) → next ≡ count → next + zeros (drop (k + 1) map) ≡ zeros map
+  unfolding zeros
+  zeros-skip f d = let e = rw rest-more at inv in go (getD map k 0) f e
+    where
+      go : (x : ℕ) → (x ≡ 0 → ⊥) → count + zeros (x ∷ drop (k + 1) map) ≡ zeros map → next + zeros (drop (k + 1) map) ≡ zeros map
+      go zero f e = absurd (f refl)
+      go (suc x) f e = omega arith
+
+pub zeros-all : (map : List ℕ) (k count : ℕ) → count + zeros (drop k map) ≡ zeros map → k ≤ length map → length map ≤ k → count ≡ zeros map
+unfolding zeros
+zeros-all map k count inv h l =
+    let e : k ≡ length map = omega arith in
+    let t = rw (e, drop-length map) at inv in
+    omega arith
+
+-- ---- a list cleared from the front
+
+-- The first n numbers are there, and are 0.
+pub record Blank (n : ℕ) (xs : List ℕ) : Type 0 where
+  pub wide : n ≤ length xs
+  pub zero : (x : ℕ) → x < n → getD xs x 0 ≡ 0
+
+pub blank-none : (xs : List ℕ) → Blank 0 xs
+blank-none xs = record { wide = omega arith; zero = λ x h. absurd (omega arith) }
+
+pub blank-more : (k : ℕ) (xs : List ℕ) → Blank k xs → k < length xs → Blank (k + 1) (set xs k 0)
+blank-more k xs b h =
+    record {
+      wide = rw length-set (omega arith);
+      zero = λ x l. ⊎-elim
+          (λ e. rw e (getD-set-same xs k 0 0 h))
+          (λ o. getD-set-other xs k x 0 0 (λ e. omega arith) ∙ b .zero x o)
+          (eq-or-lt-of-le (omega arith));
+    }
+
+pub blank-all : (k : ℕ) (xs xs₀ : List ℕ) → Blank k xs → length xs ≡ length xs₀ → length xs ≤ k → xs ≡ replicate (length xs₀) 0
+blank-all k xs xs₀ b e h =
+    ext-getD 0 xs (replicate (length xs₀) 0) (e ∙ sym (length-replicate (length xs₀) 0))
+    (λ i l. b .zero i (omega arith) ∙ sym (getD-replicate (length xs₀) i 0 0 (omega arith)))

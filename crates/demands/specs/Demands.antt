@@ -1,0 +1,109 @@
+-- Open this file first: the demands of the papers as theorems about what Compare and Truth leave, whoever wrote their code. `IsCompare` and `IsTruth` are
+-- what `compare::compare` and `truth::truth` are proved to promise, and the C functions with their answer as one number (crate `capi`). Demand 1 (any
+-- bytes, numbers and lists are answered as 01 fixes, and a refusal leaves every list as it came) is each operation's promise itself, an equation with
+-- definitions, and that no function asks anything of its caller.
+-- The definitions that a theorem names are found by the `use` lines; what 000 says of their meaning is `Figure3Laws` of the theory, and what the macros
+-- of include/cuhnavel.h take out of an answer is `OutcomeLaws` of outcome and of each operation's crate.
+use mathlib.Core.Bool.{_&&_}
+use mathlib.Core.List.{List, _++_}
+use mathlib.Core.Logic.{_↔_, _≢_}
+use mathlib.Core.Path.{_≡_, ap, _∙_}
+use Prim.Native.Nat.{ℕ, _≤_, _<_}
+use borrow.Author.Tests.{le-ltb, eq-eqb}
+use lib.Dec.{ltb}
+use lib.ListN.{length, take, drop, getD}
+use Rattle.fields.specs.Fields.{Bytes}
+use Rattle.theory.specs.Expression.{NodeExpr}
+use Rattle.theory.specs.Meaning.{holds}
+use Rattle.theory.specs.Bound.{Within}
+use Rattle.theory.specs.Bisimulation.{twoSided, Greatest}
+use Rattle.words.specs.Words.{bit}
+use Rattle.words.specs.Laws.{bit-wordOf}
+use Rattle.book.specs.Book.{cellsOf, bookRefusal}
+use Rattle.book.specs.BookGraph.{graphOf}
+use Rattle.sheet.specs.Sheet.{lengthOf, countOf, questionOf, sheetRefusal, sheetAnswer}
+use Rattle.sheet.specs.declared.SheetAnswer.the-variants.{Accepted}
+use Rattle.evaluate.specs.QuestionWord.{questionWord}
+use Rattle.evaluate.specs.WritingLaws.{over-at}
+use Rattle.truth.specs.declared.TruthAnswer.{TruthAnswer}
+use Rattle.truth.specs.declared.TruthAnswer.the-variants as told
+use Rattle.truth.specs.Truth.{firstWords, truthAnswer, IsTruth}
+use Rattle.truth.specs.Truth as truth
+use Rattle.compare_laws.specs.Places.{placed, zeros}
+use Rattle.compare_laws.specs.Places.{zeroPairs}
+use Rattle.compare.specs.declared.CompareAnswer.{CompareAnswer}
+use Rattle.compare.specs.declared.CompareAnswer.the-variants as says
+use Rattle.compare.specs.Compare.{comparedMap, comparedSheet, Lists, leftBy, rightAnswer, IsCompare, Accepts}
+use Rattle.compare.specs.Parted.{PartedBy}
+use Rattle.compare.specs.Promises.{Given, sheet-accepted, sheet-found, zeros-greatest, zero-exactly, nonzero-parts}
+use Rattle.compare.specs.Laws.{accepts-compared}
+
+-- ---- what Compare leaves
+
+-- The sheet that starts the room: it is as long as it says.
+abbrev pub sheetIn : List ℕ → List ℕ
+sheetIn room = take (lengthOf room) room
+
+module _ {l r : List ℕ} {c : ℕ} {before now : Lists} {a : CompareAnswer} (t : IsCompare l r c before a now) (bytes : Bytes l × Bytes r)
+    (given : Accepts l r c (length (before .map)) (length (before .room)) (length (before .scratch))) where
+  is-compared : rightAnswer l r c before ≡ says.Compared (length (comparedSheet l r c)) (zeros (comparedMap l r c))
+  is-compared = accepts-compared l r c _ _ _ _ _ given
+
+  left : now ≡ leftBy l r c before (says.Compared (length (comparedSheet l r c)) (zeros (comparedMap l r c)))
+  left = t .lists ∙ ap (leftBy l r c before) is-compared
+
+  map-is : now .map ≡ comparedMap l r c
+  unfolding leftBy
+  map-is = ap (λ (x : Lists). x .map) left
+
+  room-is : now .room ≡ comparedSheet l r c ++ drop (length (comparedSheet l r c)) (before .room)
+  unfolding leftBy
+  room-is = ap (λ (x : Lists). x .room) left
+
+  books : Given l r c
+  books = record { bytes = bytes; left = given .left; right = given .right; bound = given .bound }
+
+  sheet-is : sheetIn (now .room) ≡ comparedSheet l r c
+  sheet-is = ap sheetIn room-is ∙ sheet-found books (drop (length (comparedSheet l r c)) (before .room))
+
+  -- For accepted books, a bound of 0 to 4 and lists as long as 01 asks for, Compare answers with the length of the sheet and the number of zeros;
+  pub answers : a ≡ says.Compared (length (sheetIn (now .room))) (zeros (now .map))
+  answers = t .answer ∙ is-compared ∙ rw (sheet-is, map-is)
+
+  -- the sheet at the room's start is accepted, with bound c.
+  pub accepts-sheet : sheetAnswer (sheetIn (now .room)) ≡ Accepted (countOf (sheetIn (now .room))) c
+  accepts-sheet = rw sheet-is (sheet-accepted books)
+
+  -- Demand 2: "For accepted books and a bound of 0 to 4, the pairs marked matched are the greatest data-aware bisimulation for that bound: they form one, and
+  -- every other lies within." Every other relation at all, computed or not: `Greatest` says so.
+  pub demand-2 : Greatest twoSided (graphOf l) (graphOf r) c (zeroPairs (graphOf l) (graphOf r) (now .map))
+  demand-2 = rw map-is (zeros-greatest books)
+
+  module _ (i j : ℕ) (o : i < cellsOf l) (u : j < cellsOf r) where
+    -- Demand 3: "A pair is marked matched exactly when every question within the bound, however large or nested, is true at both cells or false at both;"
+    pub demand-3-matched : (placed (cellsOf r) (now .map) i j ≡ 0) ↔ ((q : NodeExpr) → Within c q → holds (graphOf l) q i ≡ holds (graphOf r) q j)
+    demand-3-matched = rw map-is (zero-exactly books i j o u)
+
+    -- "each parted pair's map entry names a question of the sheet within the bound, true left, false right, no deeper than left cells × right cells."
+    pub demand-3-parted : placed (cellsOf r) (now .map) i j ≢ 0 → PartedBy l r c (sheetIn (now .room)) i j (placed (cellsOf r) (now .map) i j)
+    demand-3-parted = rw (map-is, sheet-is) (nonzero-parts books i j o u)
+
+-- ---- what Truth leaves
+
+module _ (b s ws ws′ : List ℕ) {a : TruthAnswer} (t : IsTruth b s ws a ws′) (book : bookRefusal b ≡ 0) (sheet : sheetRefusal s ≡ 0)
+    (words : countOf s ≤ length ws) where
+  is-done : truthAnswer b s (length ws) ≡ told.Done
+  unfolding truthAnswer
+  is-done = simp (eq-eqb (bookRefusal b) 0 book, eq-eqb (sheetRefusal s) 0 sheet, le-ltb (length ws) (countOf s) words)
+
+  -- For an accepted book and sheet and as many words as entries Truth is done,
+  pub truth-answers : a ≡ told.Done
+  truth-answers = t .answer ∙ is-done
+
+  -- and bit i of word k says whether there is a cell i and question k is true there. Demand 2: "Each question of a sheet is true exactly where source
+  -- 000's meaning makes it true."
+  pub demand-2-questions : (k i : ℕ) → k < countOf s → bit (getD ws′ k 0) i ≡ (ltb i (cellsOf b) && holds (graphOf b) (questionOf s k) i)
+  unfolding truth.leftBy firstWords
+  demand-2-questions k i h =
+      rw (t .words, is-done)
+      (ap (λ (w : ℕ). bit w i) (over-at (countOf s) (questionWord (graphOf b) s) ws k h) ∙ bit-wordOf (cellsOf b) (holds (graphOf b) (questionOf s k)) i)

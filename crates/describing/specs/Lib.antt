@@ -1,2 +1,0 @@
-pub mod Describing
-pub mod Laws

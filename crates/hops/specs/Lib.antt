@@ -1,4 +1,0 @@
-pub mod Hops
-pub mod Sets
-pub mod Laws
-pub mod BookHops

@@ -1,2 +1,0 @@
-pub mod Parting
-pub mod Laws

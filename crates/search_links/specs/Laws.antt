@@ -1,0 +1,43 @@
+-- What the words have in them, for callers.
+use mathlib.Core.Bool.{So, _&&_}
+use mathlib.Core.Path.{_≡_}
+use mathlib.Core.Logic.{_↔_}
+use mathlib.Core.List.{List, [], _∷_, List·Memᴰ, List·Memᴰ·not-nil}
+use Prim.Native.Nat.{ℕ, _^_, _<_}
+use lib.Dec.{eqb}
+use Rattle.theory.specs.Search.{any}
+use Rattle.theory.specs.TestLaws.{never, and-iff, or-iff, eqb-iff, sum-iff, cons-iff, test-eq}
+use Rattle.theory.specs.Graph.{Graph, linked}
+use Rattle.theory.specs.Path.{Hop, hop, out}
+use Rattle.theory.specs.WalkLaws.{out-iff}
+use Rattle.words.specs.Words.{bit}
+use Rattle.words.specs.Laws.{bit-wordOf-lt, wordOf-lt}
+use Rattle.search_links.specs.Sets.{among, reached, spread}
+
+hop-iff : (h : Hop) (a y : ℕ) → So (eqb (h .label) a && eqb (h .to) y) ↔ (hop a y ≡ h)
+hop-iff h a y = simp (and-iff, eqb-iff) (λ (p, q). rw (← p, ← q), λ e. ((cc), (cc)))
+
+-- the hops that are found are those of the list
+pub among-iff : (hs : List Hop) (a y : ℕ) → So (among hs a y) ↔ List·Memᴰ (hop a y) hs
+unfolding among
+among-iff [] a y = (never, λ m. absurd (List·Memᴰ·not-nil m))
+among-iff (h ∷ hs) a y = simp (or-iff, sum-iff, hop-iff, among-iff hs, cons-iff) (λ m. m, λ m. m)
+
+-- and the links of a graph, where they are its hops
+pub linked-among : (g : Graph) (hs : List Hop) (x a y : ℕ) → out (g .links) x ≡ hs → linked g x a y ≡ among hs a y
+linked-among g hs x a y e =
+    test-eq _ _
+    (λ t. among-iff hs a y .1 (rw e at (out-iff (g .links) x (hop a y) .1 t)))
+    (λ t. out-iff (g .links) x (hop a y) .0 (rw e (among-iff hs a y .0 t)))
+
+pub bit-reached : (hs : List Hop) (a y : ℕ) → y < 64 → bit (reached hs a) y ≡ among hs a y
+unfolding reached
+bit-reached hs a y l = bit-wordOf-lt 64 (among hs a) y l
+
+pub bit-spread : (row : ℕ → ℕ) (w y : ℕ) → y < 64 → bit (spread row w) y ≡ any 64 (λ x. bit w x && bit (row x) y)
+unfolding spread
+bit-spread row w y l = bit-wordOf-lt 64 (λ y. any 64 (λ x. bit w x && bit (row x) y)) y l
+
+pub spread-lt : (row : ℕ → ℕ) (w : ℕ) → spread row w < 2 ^ 64
+unfolding spread
+spread-lt row w = wordOf-lt 64 (λ y. any 64 (λ x. bit w x && bit (row x) y))

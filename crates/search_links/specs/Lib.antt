@@ -1,0 +1,4 @@
+pub mod Hops
+pub mod Sets
+pub mod Laws
+pub mod BookHopLaws

@@ -1,0 +1,42 @@
+-- The sets of nodes that the search computes, as words.
+use mathlib.Core.Bool.{Bool, false, So, _&&_, _||_}
+use mathlib.Core.Path.{_≡_}
+use mathlib.Core.List.{List, [], _∷_}
+use Prim.Native.Nat.{ℕ, _+_, _*_, _<_}
+use lib.Dec.{eqb}
+use lib.ListN.{getD}
+use Rattle.theory.specs.Search.{any}
+use Rattle.theory.specs.Path.{Hop}
+use Rattle.words.specs.Words.{bit, wordOf}
+use Rattle.search_links.specs.Hops.{View, hopsOf}
+
+-- One of the hops is by the label a to y.
+unfoldable pub among : List Hop → ℕ → ℕ → Bool
+among [] a y = false
+among (h ∷ hs) a y = (eqb (h .label) a && eqb (h .to) y) || among hs a y
+
+-- The nodes that the hops reach by the label a.
+unfoldable pub reached : List Hop → ℕ → ℕ
+reached hs a = wordOf 64 (among hs a)
+
+-- The union of the rows of the nodes of w.
+unfoldable pub spread : (ℕ → ℕ) → ℕ → ℕ
+spread row w = wordOf 64 (λ y. any 64 (λ x. bit w x && bit (row x) y))
+
+-- The nodes that a link with the label a leads to from a node of w.
+abbrev pub imageOf : View → ℕ → ℕ → ℕ
+imageOf v w a = spread (λ x. reached (hopsOf v x) a) w
+
+-- Row x of comparison t, in a table of the rows of both: 0 same, 1 differ.
+abbrev pub rowAt : List ℕ → ℕ → ℕ → ℕ
+rowAt ends t x = getD ends (64 * t + x) 0
+
+-- The table has the rows of both comparisons.
+pub record Paired (same differ ends : List ℕ) : Type 0 where
+  pub first : (x : ℕ) → x < 64 → rowAt ends 0 x ≡ getD same x 0
+  pub second : (x : ℕ) → x < 64 → rowAt ends 1 x ≡ getD differ x 0
+
+-- Comparisons go by a value: nodes that pass same pass each comparison with the same nodes, and they pass it from both sides.
+pub record Valued (ends : List ℕ) : Type 0 where
+  pub alike : (t x y z : ℕ) → t < 2 → x < 64 → y < 64 → So (bit (rowAt ends 0 x) y) → So (bit (rowAt ends t y) z) → So (bit (rowAt ends t x) z)
+  pub turned : (t x y : ℕ) → t < 2 → x < 64 → y < 64 → So (bit (rowAt ends t x) y) → So (bit (rowAt ends t y) x)

@@ -1,0 +1,131 @@
+// A book's links by their numbers, as the search for a reason reaches them: where the links out of a cell begin, and sets of cells
+// carried along them as words. Nothing here knows a book's bytes: `edges` loads them.
+ghost use mathlib.Core.Path.{_≡_};
+ghost use Prim.Native.Nat.{_≤_, _<_};
+ghost use lib.ListN.{getD};
+ghost use Rattle.search_links.specs.Hops.{viewOf, hopsOf, lead, Starts, Opened};
+ghost use Rattle.search_links.specs.Sets.{reached, spread, imageOf, rowAt, Paired};
+
+// The comparisons, by their place among the rows of the cells that pass one: those of same come first.
+pub const SAME: u8 = 0;
+
+pub const DIFFER: u8 = 1;
+
+// The first link from cell x or a later one, where no link before k is.
+fn lead_from(count: usize, from: &[u8; 512], k: usize, x: u8) -> usize
+    requires { ⌜ (count ≤ 512) × (k ≤ lead count (now from) x) ⌝ }
+    ensures { λ r. ⌜ r ≡ lead count (now (from .entry)) x ⌝ }
+{
+    let mut at = k;
+    while at < count {
+        if x <= from[at] {
+            return at;
+        }
+        at += 1;
+    }
+    at
+}
+
+// The table of starts of `count` links in the order of their from cells: the links out of cell x are those from starts[x] up to
+// starts[x + 1].
+pub fn starts(count: usize, from: &[u8; 512]) -> [u16; 65]
+    requires { ⌜ count ≤ 512 ⌝ }
+    ensures { λ r. ⌜ Starts count (now (from .entry)) r ⌝ }
+{
+    let mut table = [0u16; 65];
+    let mut k: usize = 0;
+    let mut x: u8 = 0;
+    while x < 65 {
+        k = lead_from(count, from, k, x);
+        table[x as usize] = k as u16;
+        x += 1;
+    }
+    table
+}
+
+// The label of link k.
+pub fn label(labels: &[u16; 512], k: u16) -> u16
+    requires { ⌜ k < 512 ⌝ }
+    ensures { λ r. ⌜ r ≡ getD (now (labels .entry)) k 0 ⌝ }
+{
+    labels[k as usize]
+}
+
+// The cell that link k leads to.
+pub fn target(to: &[u8; 512], k: u16) -> u8
+    requires { ⌜ k < 512 ⌝ }
+    ensures { λ r. ⌜ r ≡ getD (now (to .entry)) k 0 ⌝ }
+{
+    to[k as usize]
+}
+
+// The cells that a link with the label leads to from cell x.
+pub fn targets(starts: &[u16; 65], labels: &[u16; 512], to: &[u8; 512], x: u8, label: u16) -> u64
+    requires { ⌜ Opened (now starts) (now to) × (x < 64) ⌝ }
+    ensures { λ r. ⌜ r ≡ reached (hopsOf (viewOf (now (starts .entry)) (now (labels .entry)) (now (to .entry))) x) label ⌝ }
+{
+    let until = starts[x as usize + 1];
+    let mut k = starts[x as usize];
+    let mut out: u64 = 0;
+    while k < until {
+        if labels[k as usize] == label {
+            out = words::with(out, to[k as usize]);
+        }
+        k += 1;
+    }
+    out
+}
+
+// The cells that a link with the label leads to from a cell of w.
+pub fn image(starts: &[u16; 65], labels: &[u16; 512], to: &[u8; 512], w: u64, label: u16) -> u64
+    requires { ⌜ Opened (now starts) (now to) ⌝ }
+    ensures { λ r. ⌜ r ≡ imageOf (viewOf (now (starts .entry)) (now (labels .entry)) (now (to .entry))) w label ⌝ }
+{
+    let mut out: u64 = 0;
+    let mut left = w;
+    while left != 0 {
+        let x = words::lowest(left);
+        let more = targets(starts, labels, to, x, label);
+        out = words::union(out, more);
+        left = words::without(left, x);
+    }
+    out
+}
+
+// Rows of both comparisons in one table: row x of `same` at x, row x of `differ` at 64 + x.
+pub fn paired(same: &[u64; 64], differ: &[u64; 64]) -> [u64; 128]
+    ensures { λ r. ⌜ Paired (now (same .entry)) (now (differ .entry)) r ⌝ }
+{
+    let mut rows = [0u64; 128];
+    let mut x: usize = 0;
+    while x < 64 {
+        rows[x] = same[x];
+        rows[x + 64] = differ[x];
+        x += 1;
+    }
+    rows
+}
+
+// Row x of comparison t: 0 same, 1 differ.
+pub fn row(ends: &[u64; 128], t: u8, x: u8) -> u64
+    requires { ⌜ (t < 2) × (x < 64) ⌝ }
+    ensures { λ r. ⌜ r ≡ rowAt (now (ends .entry)) t x ⌝ }
+{
+    ends[64 * (t as usize) + (x as usize)]
+}
+
+// The cells that pass comparison t with some cell of w.
+pub fn passing(ends: &[u64; 128], t: u8, w: u64) -> u64
+    requires { ⌜ t < 2 ⌝ }
+    ensures { λ r. ⌜ r ≡ spread (rowAt (now (ends .entry)) t) w ⌝ }
+{
+    let mut out: u64 = 0;
+    let mut left = w;
+    while left != 0 {
+        let x = words::lowest(left);
+        let more = row(ends, t, x);
+        out = words::union(out, more);
+        left = words::without(left, x);
+    }
+    out
+}

@@ -1,0 +1,38 @@
+-- `search_tables::put` meets its contract.
+use Rattle.search_tables.proofs.Exits.{put-none, put-full, put-done}
+use borrow.Author.Needs.{needs}
+use Rattle.search_tables.proofs.put.Statement.{statement}
+use Rattle.search_tables.proofs.put.Tie as tie
+
+uncovered-requires : tie.Need-uncovered-requires
+uncovered-requires c κs = search needs
+
+returns : tie.Need-returns
+returns c = search put-none
+
+place-requires : tie.Need-place-requires
+place-requires c κs = search needs
+
+returns-2 : tie.Need-returns-2
+returns-2 c = search put-full
+
+join-requires : tie.Need-join-requires
+join-requires c κs = search needs
+
+narrow-requires : tie.Need-narrow-requires
+narrow-requires c κs = search needs
+
+returns-3 : tie.Need-returns-3
+returns-3 c = search put-done
+
+pub put-spec : {M : Type 1} → statement M
+put-spec =
+    tie.close
+    (tie.spec
+    uncovered-requires
+    returns
+    place-requires
+    returns-2
+    join-requires
+    narrow-requires
+    returns-3)

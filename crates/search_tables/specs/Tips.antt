@@ -1,0 +1,78 @@
+-- Tables of tips. Of a path only its tip counts further on: the node where it ends, and the set of the ends of the paths of the other graph that
+-- are alike to it. A class is a set of tips with one such set; a table is n classes in two lists of words: the nodes of class e, and its set.
+use mathlib.Core.Bool.{So, true, false}
+use mathlib.Core.Logic.{_⊎_}
+use mathlib.Core.Path.{_≡_}
+use mathlib.Core.List.{List}
+use Prim.Native.Nat.{ℕ, _+_, _≤_, _<_}
+use lib.Bits.{bitAnd}
+use lib.ListN.{length, getD}
+use Rattle.words.specs.Words.{bit, Inside}
+use Rattle.search_tables.specs.declared.Grown.{Grown}
+
+-- The table has the tip (x, w).
+pub record Has (ls rs : List ℕ) (n x w : ℕ) : Type 0 where
+  pub class : ℕ
+  pub below : class < n
+  pub cell : x < 64
+  pub inside : So (bit (getD ls class 0) x)
+  pub word : getD rs class 0 ≡ w
+
+-- The table covers the tip (x, w): it has a tip of that node with a set inside of w.
+pub record Covered (ls rs : List ℕ) (n x w : ℕ) : Type 0 where
+  pub word : ℕ
+  pub has : Has ls rs n x word
+  pub inside : Inside word w
+
+-- Two lists have room for a table.
+pub record TableRoom (ls rs : List ℕ) (n : ℕ) : Type 0 where
+  pub left : length ls ≡ 128
+  pub right : length rs ≡ 128
+  pub few : n ≤ 128
+
+-- The nodes of a set with a row.
+pub record Rowmates (z : List ℕ) (cells row r : ℕ) : Type 0 where
+  pub sound : (x : ℕ) → So (bit r x) → So (bit cells x) × (getD z x 0 ≡ row)
+  pub whole : (x : ℕ) → x < 64 → So (bit cells x) → getD z x 0 ≡ row → So (bit r x)
+
+-- Of a set, nodes such that the table covers the tips of the others.
+pub record Rest (ls rs : List ℕ) (n cells w r : ℕ) : Type 0 where
+  pub part : (x : ℕ) → So (bit r x) → So (bit cells x)
+  pub others : (x : ℕ) → x < 64 → So (bit cells x) → So (bit r x) ⊎ Covered ls rs n x w
+
+-- One of n classes that has the set w or no nodes, or n.
+pub record ClassPlace (ls rs : List ℕ) (n w e : ℕ) : Type 0 where
+  pub most : e ≤ n
+  pub there : e < n → (getD rs e 0 ≡ w) ⊎ (getD ls e 0 ≡ 0)
+
+-- The table has what it had, and the tips of the nodes with the set w; it may have one class more.
+pub record Joined (ls rs : List ℕ) (n cells w : ℕ) (ls′ rs′ : List ℕ) (n′ : ℕ) : Type 0 where
+  pub room : TableRoom ls′ rs′ n′
+  pub few : n′ ≤ n + 1
+  pub sound : (y o : ℕ) → Has ls′ rs′ n′ y o → Has ls rs n y o ⊎ (So (bit cells y) × (o ≡ w))
+  pub kept : (y o : ℕ) → Has ls rs n y o → Has ls′ rs′ n′ y o
+  pub new : (y : ℕ) → y < 64 → So (bit cells y) → Has ls′ rs′ n′ y w
+
+-- Some of the tips of the nodes were taken out of the table, all with sets wider than w.
+pub record Narrowed (ls rs : List ℕ) (n cells w : ℕ) (ls′ : List ℕ) : Type 0 where
+  pub room : TableRoom ls′ rs n
+  pub sound : (y o : ℕ) → Has ls′ rs n y o → Has ls rs n y o
+  pub kept : (y o : ℕ) → Has ls rs n y o → Has ls′ rs n y o ⊎ (So (bit cells y) × Inside w o × (o ≡ w → ⊥))
+
+-- The table has nothing but what it had and tips of the nodes with the set w. It covers what it had, and unless it was full, all those tips.
+pub record Put (ls rs : List ℕ) (n cells w : ℕ) (ls′ rs′ : List ℕ) (g : Grown) : Type 0 where
+  pub room : TableRoom ls′ rs′ (g .count)
+  pub few : g .count ≤ n + 1
+  pub full : g .full ≡ true → (n ≡ 128) × (g .count ≡ n)
+  pub sound : (y o : ℕ) → Has ls′ rs′ (g .count) y o → Has ls rs n y o ⊎ (So (bit cells y) × (o ≡ w))
+  pub kept : (y o : ℕ) → Has ls rs n y o → Covered ls′ rs′ (g .count) y o
+  pub new : g .full ≡ false → (y : ℕ) → y < 64 → So (bit cells y) → Covered ls′ rs′ (g .count) y w
+
+-- The table has nothing but what it had and tips (y, s cut with row y) of the nodes y of a set. It covers what it had, and unless it was full, all
+-- those tips.
+pub record Grew (z ls rs : List ℕ) (n cells s : ℕ) (ls′ rs′ : List ℕ) (g : Grown) : Type 0 where
+  pub room : TableRoom ls′ rs′ (g .count)
+  pub full : g .full ≡ true → 64 < n
+  pub sound : (y o : ℕ) → Has ls′ rs′ (g .count) y o → Has ls rs n y o ⊎ (So (bit cells y) × (bitAnd s (getD z y 0) ≡ o))
+  pub kept : (y o : ℕ) → Has ls rs n y o → Covered ls′ rs′ (g .count) y o
+  pub whole : g .full ≡ false → (y : ℕ) → y < 64 → So (bit cells y) → Covered ls′ rs′ (g .count) y (bitAnd s (getD z y 0))
