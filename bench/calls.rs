@@ -1,6 +1,7 @@
 //! A call of Compare, timed, and the lists that are lent to it.
 
 use crate::clock::running;
+use crate::support::library::needed;
 use crate::support::outcome::Outcome;
 use std::hint::black_box;
 use std::time::Duration;
@@ -10,18 +11,19 @@ pub type Compare = fn(&[u8], &[u8], usize, &mut [u16], &mut [u8], &mut [u8]) -> 
 /// What is lent: a map, room and scratch.
 #[derive(PartialEq, Hash)]
 pub struct Lists {
-    map: Vec<u16>,
+    pub map: Vec<u16>,
     room: Vec<u8>,
     scratch: Vec<u8>,
 }
 
 impl Lists {
-    /// As long as books with so many pairs of cells need them.
-    pub fn new(pairs: usize) -> Lists {
+    /// As long as books with so many pairs of cells need them, where the sheet is of this version.
+    pub fn new(pairs: usize, version: u8) -> Lists {
+        let (map, room, scratch) = needed(pairs, version);
         Lists {
-            map: vec![0; pairs],
-            room: vec![0; 10 + 44 * pairs],
-            scratch: vec![0; 16 * pairs],
+            map: vec![0; map],
+            room: vec![0; room],
+            scratch: vec![0; scratch],
         }
     }
 }

@@ -1,4 +1,5 @@
-//! Compare on families of books at bounds 1 to 4: the library beside plain Rust of the same method, on the same inputs in one run.
+//! Compare on families of books at bounds 1 to 4: the library beside plain Rust of the same method on books of version 1, and the library on
+//! the same books written in version 2, in one run.
 
 mod calls;
 mod clock;
@@ -8,17 +9,18 @@ mod plain_compare;
 #[path = "../tests/support/mod.rs"]
 mod support;
 
-use calls::{timed, Lists};
+use calls::{timed, Compare, Lists};
 use families::{changed, hard, ordinary, Family};
 use std::time::Duration;
 use support::library;
 use support::outcome::{accepted, Outcome};
+use support::versions::VERSIONS;
 
 /// The library's tables have so many places, and so have the plain version's.
 const PLACES: usize = 128;
 
-/// The two are called by turns, so long in all, but each at least and at most so often.
-const MEASURED: Duration = Duration::from_millis(300);
+/// The three are called by turns, so long in all, but each at least and at most so often.
+const MEASURED: Duration = Duration::from_millis(450);
 const LEAST: usize = 5;
 const MOST: usize = 300;
 
@@ -31,9 +33,12 @@ const LEAST_LONG: usize = 2;
 const SLOW: Duration = Duration::from_secs(2);
 const SLOWISH: Duration = Duration::from_millis(300);
 
-/// Ratios above these are marked.
+/// Ratios of the library to the plain version above these are marked.
 const RATIO: f64 = 1.5;
 const ORDINARY_RATIO: f64 = 2.0;
+
+/// Ratios of version 2 to version 1 above this are marked.
+const VERSIONS_RATIO: f64 = 1.05;
 
 /// What was seen of some families.
 #[derive(Default)]
@@ -42,6 +47,37 @@ struct Seen {
     slow: usize,
     slowish: usize,
     above: usize,
+    versions: Versions,
+}
+
+/// The library's times in version 2, beside those in version 1.
+#[derive(Default)]
+struct Versions {
+    sums: [f64; 2],
+    /// Of the logarithms of the ratios.
+    logarithms: f64,
+    highest: f64,
+    above: usize,
+}
+
+impl Versions {
+    fn add(&mut self, row: &Row) {
+        self.sums[0] += row.library.as_secs_f64();
+        self.sums[1] += row.wide.as_secs_f64();
+        self.logarithms += row.versions_ratio().ln();
+        self.highest = self.highest.max(row.versions_ratio());
+        self.above += row.wide_slower() as usize;
+    }
+
+    fn text(&self, rows: usize) -> String {
+        format!(
+            "version 2 to version 1: the sums are {:.3}, the geometric mean of the ratios is {:.3}, the highest {:.2}; {} are above {VERSIONS_RATIO}",
+            self.sums[1] / self.sums[0],
+            (self.logarithms / rows as f64).exp(),
+            self.highest,
+            self.above
+        )
+    }
 }
 
 fn main() {
@@ -49,8 +85,18 @@ fn main() {
         "best of {LEAST} to {MOST} calls each, by turns, or of {LEAST_LONG} above a second; times on the processor in ms; map, room and scratch are filled with ones before each call"
     );
     println!(
-        "{:<60}{:>6}{:>6}{:>9}{:>8}{:>8}{:>12}{:>12}{:>8}",
-        "books", "cells", "bound", "matched", "parted", "bytes", "library", "plain", "ratio"
+        "{:<60}{:>6}{:>6}{:>9}{:>8}{:>8}{:>12}{:>12}{:>8}{:>12}{:>8}",
+        "books",
+        "cells",
+        "bound",
+        "matched",
+        "parted",
+        "bytes",
+        "library",
+        "plain",
+        "ratio",
+        "version 2",
+        "ratio"
     );
     table("ordinary books", &ordinary(), ORDINARY_RATIO);
     table("hard books", &hard(), RATIO);
@@ -61,16 +107,16 @@ fn main() {
 fn table(name: &str, families: &[Family], most: f64) {
     let mut seen = Seen::default();
     for family in families {
-        let (left, right) = (family.left.bytes(), family.right.bytes());
         for bound in 1..=4 {
-            let row = measure(&left, &right, bound);
+            let row = measure(family, bound);
             let (slow, above) = (row.library > SLOW, row.ratio() > most);
             seen.rows += 1;
             seen.slow += slow as usize;
             seen.slowish += (row.library > SLOWISH) as usize;
             seen.above += above as usize;
+            seen.versions.add(&row);
             println!(
-                "{:<60}{:>6}{bound:>6}{}{}{}{}",
+                "{:<60}{:>6}{bound:>6}{}{}{}{}{}",
                 family.name,
                 family.left.cells(),
                 row.text(),
@@ -81,12 +127,21 @@ fn table(name: &str, families: &[Family], most: f64) {
                 },
                 if slow { "  above 2 s" } else { "" },
                 if above { "  ratio above the most" } else { "" },
+                if row.wide_slower() {
+                    "  version 2 slower"
+                } else {
+                    ""
+                },
             );
         }
     }
     println!(
-        "{name}: of {} times {} are above 2 s and {} above 0.3 s; {} ratios are above {most}",
-        seen.rows, seen.slow, seen.slowish, seen.above
+        "{name}: of {} times {} are above 2 s and {} above 0.3 s; {} ratios are above {most}; {}",
+        seen.rows,
+        seen.slow,
+        seen.slowish,
+        seen.above,
+        seen.versions.text(seen.rows)
     );
 }
 
@@ -97,6 +152,8 @@ struct Row {
     answer: Outcome,
     library: Duration,
     plain: Duration,
+    /// The library's, of the books in version 2.
+    wide: Duration,
 }
 
 impl Row {
@@ -112,45 +169,68 @@ impl Row {
         self.library.as_secs_f64() / self.plain.as_secs_f64()
     }
 
+    fn versions_ratio(&self) -> f64 {
+        self.wide.as_secs_f64() / self.library.as_secs_f64()
+    }
+
+    fn wide_slower(&self) -> bool {
+        self.versions_ratio() > VERSIONS_RATIO
+    }
+
     fn text(&self) -> String {
         let matched = self.answer.second as usize;
         format!(
-            "{matched:>9}{:>8}{:>8}{:>12.3}{:>12.3}{:>8.2}",
+            "{matched:>9}{:>8}{:>8}{:>12.3}{:>12.3}{:>8.2}{:>12.3}{:>8.3}",
             self.pairs - matched,
             self.answer.first,
             self.library.as_secs_f64() * 1e3,
             self.plain.as_secs_f64() * 1e3,
-            self.ratio()
+            self.ratio(),
+            self.wide.as_secs_f64() * 1e3,
+            self.versions_ratio()
         )
     }
 }
 
-/// Calls both by turns; each time they give the same map and sheet.
-fn measure(left: &[u8], right: &[u8], bound: usize) -> Row {
-    let pairs = left[5] as usize * right[5] as usize;
-    let (mut by_library, mut by_plain) = (Lists::new(pairs), Lists::new(pairs));
+/// Calls the three by turns; each time library and plain version give the same map and sheet, and the library the same map in version 2.
+fn measure(family: &Family, bound: usize) -> Row {
+    let [narrow, wide] =
+        VERSIONS.map(|version| [&family.left, &family.right].map(|book| book.bytes(version)));
+    let pairs = family.left.cells() * family.right.cells();
+    let (mut by_library, mut by_plain) = (Lists::new(pairs, 1), Lists::new(pairs, 1));
+    let mut by_wide = Lists::new(pairs, 2);
     let mut row = Row {
         pairs,
         calls: 0,
         answer: accepted(0, 0),
         library: Duration::MAX,
         plain: Duration::MAX,
+        wide: Duration::MAX,
     };
     let mut all = Duration::ZERO;
     let plain = plain_compare::compare::<PLACES>;
+    let call = |compare: Compare, [left, right]: &[Vec<u8>; 2], lists: &mut Lists| {
+        timed(compare, left, right, bound, lists)
+    };
     while row.calls < row.least() || all < MEASURED && row.calls < MOST {
-        let (of_library, time) = timed(library::compare, left, right, bound, &mut by_library);
-        let (of_plain, plain_time) = timed(plain, left, right, bound, &mut by_plain);
+        let (of_library, time) = call(library::compare, &narrow, &mut by_library);
+        let (of_plain, plain_time) = call(plain, &narrow, &mut by_plain);
+        let (of_wide, wide_time) = call(library::compare, &wide, &mut by_wide);
         if of_library != of_plain || of_library.refusal != 0 || by_library != by_plain {
             println!(
                 "bound {bound}: {of_library:?} and {of_plain:?}, or what is written, are not the same"
             );
             std::process::exit(1);
         }
+        if of_wide.refusal != 0 || by_wide.map != by_library.map {
+            println!("bound {bound}: {of_wide:?} in version 2, or another map");
+            std::process::exit(1);
+        }
         row.answer = of_library;
         row.library = row.library.min(time);
         row.plain = row.plain.min(plain_time);
-        all += time + plain_time;
+        row.wide = row.wide.min(wide_time);
+        all += time + plain_time + wide_time;
         row.calls += 1;
     }
     row

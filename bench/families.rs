@@ -225,7 +225,7 @@ fn recordings(random: &mut Random, cells: usize, kinds: usize) -> Vec<u32> {
 }
 
 /// From each cell one link by each label.
-fn deterministic(random: &mut Random, recordings: Vec<u32>, labels: u8) -> Book {
+fn deterministic(random: &mut Random, recordings: Vec<u32>, labels: u16) -> Book {
     let cells = recordings.len();
     let mut links = Vec::new();
     for from in 0..cells as u8 {
@@ -282,13 +282,13 @@ fn complete_and_chain(recordings: Vec<u32>) -> Book {
 }
 
 /// A grid of 8 × 8 cells with links both ways, by one label or by the direction.
-fn grid(recordings: Vec<u32>, labels: u8) -> Book {
+fn grid(recordings: Vec<u32>, labels: u16) -> Book {
     let mut links = Vec::new();
     for (row, column) in (0..64i8).map(|x| (x / 8, x % 8)) {
         for (direction, (down, right)) in [(0, 1), (1, 0), (0, -1), (-1, 0)].iter().enumerate() {
             let (r, c) = (row + down, column + right);
             if (0..8).contains(&r) && (0..8).contains(&c) {
-                let label = direction as u8 % labels;
+                let label = direction as u16 % labels;
                 links.push(link((8 * row + column) as u8, label, (8 * r + c) as u8));
             }
         }

@@ -1,9 +1,10 @@
 //! The questions whose texts are timed, the same in every run.
 
 use crate::support::books::{chain, random_book, Book};
-use crate::support::library;
+use crate::support::library::{self, needed};
 use crate::support::random::Random;
 use crate::support::sheets::{random_sheet, step, Entry, Sheet, Step};
+use crate::support::versions::versions_of;
 use std::ops::Range;
 
 /// The most entries of a sheet, and the most steps of a way.
@@ -48,6 +49,7 @@ pub fn written() -> Vec<Asked> {
         ("2 digits", 10..100),
         ("3 digits", 100..256),
         ("1 to 3 digits", 0..256),
+        ("5 digits", 10_000..65_536),
     ] {
         let name = format!("ways of 60 steps, 3 in each other, labels of {name}");
         asked.push(last(&name, 4, |number| {
@@ -85,7 +87,7 @@ pub fn measured() -> Vec<Asked> {
     let ways = last("ways of 60 steps, 16,385 entries", ENTRIES, |number| {
         // A test is before the quarter of the sheet where the entry is, so that at most four ways are in each other.
         let quarter = 1 + (number - 1) / (ENTRIES / 4) * (ENTRIES / 4);
-        let steps = (0..STEPS).map(|_| step(random.byte(), random.below(quarter) as u16));
+        let steps = (0..STEPS).map(|_| step(random.byte() as u16, random.below(quarter) as u16));
         Entry::Way(steps.collect())
     });
     vec![ways, last("and, doubled 1,000 times", 1001, doubled)]
@@ -105,12 +107,12 @@ fn steps(random: &mut Random, number: usize, count: usize, labels: &Range<usize>
     (0..count)
         .map(|_| {
             let label = random.between(labels.start, labels.end - 1);
-            step(label as u8, before(number))
+            step(label as u16, before(number))
         })
         .collect()
 }
 
-/// The last question of a sheet of so many entries: true, and one made from each number.
+/// The last question of a sheet of so many entries: true, and one made from each number. The sheet is of version 1 if that has the labels.
 fn last(name: &str, entries: usize, entry: impl FnMut(usize) -> Entry) -> Asked {
     let sheet = Sheet {
         bound: 4,
@@ -121,7 +123,7 @@ fn last(name: &str, entries: usize, entry: impl FnMut(usize) -> Entry) -> Asked 
     };
     Asked {
         name: name.to_string(),
-        sheet: sheet.bytes(),
+        sheet: sheet.bytes(versions_of(sheet.labels())[0]),
         entry: entries - 1,
     }
 }
@@ -141,7 +143,7 @@ fn last_of_size(name: &str, sheet: Vec<u8>, bytes: Range<usize>) -> Option<Asked
 /// A question of a random sheet.
 fn any_kinds(name: &str, random: &mut Random, longest: usize) -> Asked {
     loop {
-        let sheet = random_sheet(random, 4, 400, longest, 256).bytes();
+        let sheet = random_sheet(random, 4, 400, longest, 256).bytes(1);
         if let Some(asked) = last_of_size(name, sheet, LONG) {
             return asked;
         }
@@ -150,15 +152,15 @@ fn any_kinds(name: &str, random: &mut Random, longest: usize) -> Asked {
 
 /// A question of the sheet that Compare writes for a book and itself.
 fn of_compare(name: &str, book: &Book, bytes: Range<usize>) -> Asked {
-    let pairs = book.cells() * book.cells();
-    let mut room = vec![0; 10 + 44 * pairs];
+    let (map, room, scratch) = needed(book.cells() * book.cells(), 1);
+    let mut room = vec![0; room];
     let answer = library::compare(
-        &book.bytes(),
-        &book.bytes(),
+        &book.bytes(1),
+        &book.bytes(1),
         2,
-        &mut vec![0; pairs],
+        &mut vec![0; map],
         &mut room,
-        &mut vec![0; 16 * pairs],
+        &mut vec![0; scratch],
     );
     room.truncate(answer.first as usize);
     last_of_size(name, room, bytes).expect("a text of so many bytes")

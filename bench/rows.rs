@@ -1,6 +1,7 @@
-//! Compare of one library on the families of books, row by row as `bench/beside` asks for them. The first line that is printed says how
-//! many families there are. Then for each line read, a family's number and a bound, one is printed, its fields apart by tabs: the
-//! group, the name and the cells of the family; the matched pairs; a number that stands for what was written; and the time in ms.
+//! Compare of one library on the families of books, written in the version that is given, row by row as `bench/beside` asks for them. The
+//! first line that is printed says how many families there are. Then for each line read, a family's number and a bound, one is printed,
+//! its fields apart by tabs: the group, the name and the cells of the family; the matched pairs; a number that stands for what was
+//! written; and the time in ms.
 
 mod calls;
 mod clock;
@@ -10,6 +11,7 @@ mod support;
 
 use calls::{timed, Lists};
 use families::{changed, hard, ordinary, Family};
+use std::env;
 use std::hash::{DefaultHasher, Hash, Hasher};
 use std::io::stdin;
 use std::time::Duration;
@@ -29,19 +31,20 @@ fn main() {
         .flat_map(|(group, families)| families.into_iter().map(move |family| (group, family)))
         .collect();
     println!("{}", families.len());
+    let number = |field: &str| field.parse().expect("a number");
+    let version = number(&env::args().nth(1).expect("a version")) as u8;
     for line in stdin().lines() {
         let line = line.expect("a line");
         let (family, bound) = line.split_once(' ').expect("two numbers");
-        let number = |field: &str| field.parse().expect("a number");
         let (group, family) = &families[number(family)];
-        println!("{group}\t{}", row(family, number(bound)));
+        println!("{group}\t{}", row(family, version, number(bound)));
     }
 }
 
 /// The other fields of a row: the time is that of the shortest call.
-fn row(family: &Family, bound: usize) -> String {
-    let (left, right) = (family.left.bytes(), family.right.bytes());
-    let mut lists = Lists::new(family.left.cells() * family.right.cells());
+fn row(family: &Family, version: u8, bound: usize) -> String {
+    let (left, right) = (family.left.bytes(version), family.right.bytes(version));
+    let mut lists = Lists::new(family.left.cells() * family.right.cells(), version);
     let mut call = || timed(library::compare, &left, &right, bound, &mut lists);
     let (answer, mut best) = call();
     let mut all = best;

@@ -1,4 +1,5 @@
-//! Truth on 64 cells, 512 links and 16,385 entries: the library beside a plain Rust evaluator, on the same inputs in one run.
+//! Truth on 64 cells, 512 links and 16,385 entries, in either version: the library beside a plain Rust evaluator, on the same inputs in one
+//! run.
 
 #[path = "../tests/plain/truth.rs"]
 mod plain;
@@ -11,6 +12,7 @@ use support::books::random_book;
 use support::library;
 use support::random::Random;
 use support::sheets::{random_entry, random_steps, Entry, Sheet, Step};
+use support::versions::VERSIONS;
 
 const CELLS: usize = 64;
 const LINKS: usize = 512;
@@ -22,11 +24,11 @@ fn main() {
         "{CELLS} cells, {LINKS} links, {ENTRIES} entries, {REPETITIONS} repetitions; times in ms"
     );
     println!(
-        "{:<40}{:>10}{:>10}{:>10}{:>10}{:>8}{:>8}",
+        "{:<52}{:>10}{:>10}{:>10}{:>10}{:>8}{:>8}",
         "", "library", "", "plain", "", "ratio", ""
     );
     println!(
-        "{:<40}{:>10}{:>10}{:>10}{:>10}{:>8}{:>8}",
+        "{:<52}{:>10}{:>10}{:>10}{:>10}{:>8}{:>8}",
         "sheet", "best", "median", "best", "median", "best", "median"
     );
     // By one label every link is a step's; by 8 labels one in 8 is.
@@ -74,31 +76,35 @@ fn tested_steps(random: &mut Random, number: usize, count: usize, labels: usize)
     steps
 }
 
-/// Times both on a random book and the sheet of these entries after entry 0.
+/// Times both on a random book and the sheet of these entries after entry 0, written in either version.
 fn measure(
     name: &str,
     labels: usize,
     random: &mut Random,
     entry: impl Fn(&mut Random, usize) -> Entry,
 ) {
-    let book = random_book(random, CELLS, LINKS, labels, 16).bytes();
+    let book = random_book(random, CELLS, LINKS, labels, 16);
     let mut entries = vec![Entry::True];
     while entries.len() < ENTRIES {
         entries.push(entry(random, entries.len()));
     }
-    let sheet = Sheet { bound: 4, entries }.bytes();
+    let sheet = Sheet { bound: 4, entries };
+    for version in VERSIONS {
+        let name = format!("{name}, version {version}");
+        measure_bytes(&name, &book.bytes(version), &sheet.bytes(version));
+    }
+}
 
+/// Times both on this book and this sheet.
+fn measure_bytes(name: &str, book: &[u8], sheet: &[u8]) {
     let mut by_library = vec![0; ENTRIES];
     let mut by_plain = vec![0; ENTRIES];
     let (mut library_times, mut plain_times) = (Vec::new(), Vec::new());
     for _ in 0..REPETITIONS {
-        library_times.push(timed(
-            &book,
-            &sheet,
-            &mut by_library,
-            |book, sheet, words| library::truth(book, sheet, words).number() == 0,
-        ));
-        plain_times.push(timed(&book, &sheet, &mut by_plain, plain::truth));
+        library_times.push(timed(book, sheet, &mut by_library, |book, sheet, words| {
+            library::truth(book, sheet, words).number() == 0
+        }));
+        plain_times.push(timed(book, sheet, &mut by_plain, plain::truth));
         if by_library != by_plain {
             println!("{name}: the words are not the same");
             std::process::exit(1);
@@ -107,7 +113,7 @@ fn measure(
     let (library, plain) = (best_and_median(library_times), best_and_median(plain_times));
     let ms = |time: Duration| time.as_secs_f64() * 1e3;
     println!(
-        "{name:<40}{:>10.1}{:>10.1}{:>10.1}{:>10.1}{:>8.2}{:>8.2}",
+        "{name:<52}{:>10.1}{:>10.1}{:>10.1}{:>10.1}{:>8.2}{:>8.2}",
         ms(library.0),
         ms(library.1),
         ms(plain.0),

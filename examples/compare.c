@@ -9,11 +9,11 @@
 
 #include "cuhnavel.h"
 
-enum { CELLS = 64, BOOK = 8 + 4 * CELLS + 3 * 512, PAIRS = CELLS * CELLS };
+enum { CELLS = 64, BOOK = 8 + 4 * CELLS + 4 * 512, PAIRS = CELLS * CELLS }; /* the most, of a book of version 2 */
 
 static uint8_t left[BOOK + 1], right[BOOK + 1]; /* a byte more, so that a longer file is seen to be one */
 static uint16_t map[PAIRS];
-static uint8_t room[10 + 44 * PAIRS], scratch[16 * PAIRS];
+static uint8_t room[10 + 52 * PAIRS], scratch[16 * PAIRS];
 static uint8_t text[1000]; /* a longer question is not printed */
 
 static size_t load(const char *name, uint8_t *bytes)

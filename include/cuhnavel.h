@@ -35,24 +35,26 @@ extern "C" {
 #define CUHNAVEL_RIGHT_BOOK 2 /* the right book */
 #define CUHNAVEL_SHEET 3      /* the sheet */
 
-/* Check a book. Accepted: first is its number of cells, second its number of links.
+/* Check a book. Accepted: first is its number of cells, second its number of links. Byte 4 of the book is its version: labels are
+ * numbers of one byte in version 1, 0 to 255, and of two bytes in version 2, 0 to 65,535. In either they mean the same.
  * Refused, part CUHNAVEL_LEFT_BOOK:
  *   1  fewer than 8 bytes
  *   2  its length field is not len
- *   3  its version is not 1
+ *   3  its version is neither 1 nor 2
  *   4  cells not 1 to 64, or links above 512
- *   5  its length is not 8 + 4 x cells + 3 x links
+ *   5  its length is not 8 + 4 x cells + 3 x links in version 1, or 8 + 4 x cells + 4 x links in version 2
  * then link by link:
  *   6  a cell of the link is not in the book
  *   7  the link is not above the link before
  */
 uint64_t cuhnavel_check_book(const uint8_t *bytes, size_t len);
 
-/* Check a sheet. Accepted: first is its number of entries, second its bound.
+/* Check a sheet. Accepted: first is its number of entries, second its bound. Byte 4 of the sheet is its version: the label of a step
+ * has one byte in version 1 and two in version 2.
  * Refused, part CUHNAVEL_SHEET:
  *   1  fewer than 8 bytes
  *   2  its length field is not len
- *   3  its version is not 1
+ *   3  its version is neither 1 nor 2
  *   8  bound above 4, or entries not 1 to 16,385
  * then entry by entry:
  *   9  the count byte is absent, 0, or reaches past the end
@@ -67,13 +69,14 @@ uint64_t cuhnavel_check_book(const uint8_t *bytes, size_t len);
  */
 uint64_t cuhnavel_check_sheet(const uint8_t *bytes, size_t len);
 
-/* Compare: which cells of two books do the same, and what parts the others. With n the left book's number of cells and m the
- * right one's:
+/* Compare: which cells of two books do the same, and what parts the others. The books may be of different versions. With n the left
+ * book's number of cells and m the right one's:
  *   map      n x m places. Place i x m + j becomes 0 where left cell i and right cell j are matched, that is where no question
  *            within the bound is true at the one and false at the other; else it becomes the number of an entry of the sheet
  *            whose question is true at left cell i and false at right cell j.
- *   room     at least 10 + 44 x n x m bytes. It starts with the sheet of these questions, for the bound; the bytes after the
- *            sheet are as they were.
+ *   room     at least 10 + 44 x n x m bytes, or 10 + 52 x n x m if either book is of version 2. It starts with the sheet of these
+ *            questions, for the bound, which is of version 2 if either book is, else of version 1; the bytes after the sheet are as
+ *            they were.
  *   scratch  at least 16 x n x m bytes. All that is lent becomes zeros.
  * Of two ways that part a pair, those with fewer steps in all are taken first. Which question is taken is fixed, and with it every
  * byte of the map and the sheet: two books and a bound always give the same.
@@ -84,7 +87,7 @@ uint64_t cuhnavel_check_sheet(const uint8_t *bytes, size_t len);
  *   the right book's refusal, part CUHNAVEL_RIGHT_BOOK
  * then, part CUHNAVEL_CALL:
  *   21 map_len is not n x m
- *   22 room_len is below 10 + 44 x n x m
+ *   22 room_len is below 10 + 44 x n x m, or below 10 + 52 x n x m if either book is of version 2
  *   23 scratch_len is below 16 x n x m
  */
 uint64_t cuhnavel_compare(const uint8_t *left, size_t left_len, const uint8_t *right, size_t right_len, size_t bound,
@@ -93,7 +96,7 @@ uint64_t cuhnavel_compare(const uint8_t *left, size_t left_len, const uint8_t *r
 
 /* Truth: where the questions of a sheet are true in a book. Accepted: with q the sheet's number of entries and n the book's
  * number of cells, word k (0 to q - 1) has bit i (value 2^i) exactly when entry k is true at cell i; bits from n up are 0;
- * words from q on are as they were. Both values are 0.
+ * words from q on are as they were. Both values are 0. The book and the sheet may be of different versions.
  * Refused:
  *   the book's refusal, as cuhnavel_check_book
  *   the sheet's refusal, as cuhnavel_check_sheet
@@ -103,7 +106,8 @@ uint64_t cuhnavel_truth(const uint8_t *book, size_t book_len, const uint8_t *she
                         size_t words_len);
 
 /* Claim: is an entry of a sheet true at a cell of the left book and false at a cell of the right one? Accepted: first is 1 for
- * yes, 0 for no. For either the words end as cuhnavel_truth of the right book and the sheet leaves them.
+ * yes, 0 for no. For either the words end as cuhnavel_truth of the right book and the sheet leaves them. The books and the sheet may
+ * be of different versions.
  * Refused:
  *   the left book's refusal, part CUHNAVEL_LEFT_BOOK
  *   the right book's refusal, part CUHNAVEL_RIGHT_BOOK
@@ -138,15 +142,16 @@ uint64_t cuhnavel_row_word(const uint16_t *map, size_t map_len, size_t m, size_t
 uint64_t cuhnavel_pair(const uint16_t *map, size_t map_len, size_t place, const uint8_t *sheet, size_t sheet_len);
 
 /* Links: the links out of a cell, as a part of the book's bytes. Accepted: first is how many they are, second the byte of the
- * book where the first of them starts (0 if there are none); each is 3 bytes: from cell, label, to cell.
+ * book where the first of them starts (0 if there are none). Each is from cell, label, to cell: 3 bytes in a book of version 1, and 4
+ * in a book of version 2, where the label has two, most significant first. Byte 4 of the book tells which it is.
  * Refused:
  *   the book's refusal, as cuhnavel_check_book
  *   26 the cell is not in the book, part CUHNAVEL_CALL
  */
 uint64_t cuhnavel_links(const uint8_t *book, size_t book_len, size_t cell);
 
-/* The bytes of stack that cuhnavel_question_length and cuhnavel_question_text take at most, whatever they are asked: 164,008 and
- * 278,792 as measured with the deepest questions, rounded up to multiples of 4,096. tests/stack runs them on just so much. */
+/* The bytes of stack that cuhnavel_question_length and cuhnavel_question_text take at most, whatever they are asked: 164,000 and
+ * 278,800 as measured with the deepest questions, rounded up to multiples of 4,096. tests/stack runs them on just so much. */
 #define CUHNAVEL_QUESTION_LENGTH_STACK 167936
 #define CUHNAVEL_QUESTION_TEXT_STACK 282624
 
@@ -164,7 +169,8 @@ uint64_t cuhnavel_question_length(const uint8_t *sheet, size_t sheet_len, size_t
 
 /* Question text: writes the question of an entry out in full, at the room's start, in ASCII: true <.>, not !(p), and (p&q),
  * or (p|q), way <w>, same <w=v>, differ <w!=v>; a way is a dot if it has no steps, else its steps, each /label[p] with the label
- * in base ten. Bytes after the text are as they were. The answer is that of cuhnavel_question_length; refused, last of all:
+ * in base ten, up to 65535. Bytes after the text are as they were. The answer is that of cuhnavel_question_length; refused, last of
+ * all:
  *   30 room_len is below the length, part CUHNAVEL_CALL
  * It takes at most CUHNAVEL_QUESTION_TEXT_STACK bytes of stack.
  */

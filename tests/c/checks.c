@@ -19,7 +19,13 @@ int main(void)
         0, 0, 0, 5, 0, 0, 0, 5, 0, 0, 0, 6,
         0, 1, 1, 0, 1, 2,
     };
-    /* The same with its links exchanged. */
+    /* The same in version 2. */
+    const uint8_t book_2[] = {
+        0, 0, 0, 28, 2, 3, 0, 2,
+        0, 0, 0, 5, 0, 0, 0, 5, 0, 0, 0, 6,
+        0, 0, 1, 1, 0, 0, 1, 2,
+    };
+    /* The first with its links exchanged. */
     const uint8_t falling_links[] = {
         0, 0, 0, 26, 1, 3, 0, 2,
         0, 0, 0, 5, 0, 0, 0, 5, 0, 0, 0, 6,
@@ -31,7 +37,15 @@ int main(void)
         1, 0,
         6, 6, 0, 1, 1, 0, 0,
     };
-    /* The same with bound 0, for which a step is too many. */
+    /* The same in version 2. */
+    const uint8_t sheet_2[] = {
+        0, 0, 0, 18, 2, 1, 0, 2,
+        1, 0,
+        7, 6, 0, 1, 0, 1, 0, 0,
+    };
+    /* A header of version 3. */
+    const uint8_t version_3[] = {0, 0, 0, 8, 3, 1, 0, 1};
+    /* The first sheet with bound 0, for which a step is too many. */
     const uint8_t step_above_bound[] = {
         0, 0, 0, 17, 1, 0, 0, 2,
         1, 0,
@@ -39,8 +53,12 @@ int main(void)
     };
 
     print("book", cuhnavel_check_book(book, sizeof book));
+    print("book of version 2", cuhnavel_check_book(book_2, sizeof book_2));
+    print("book of version 3", cuhnavel_check_book(version_3, sizeof version_3));
     print("book, links falling", cuhnavel_check_book(falling_links, sizeof falling_links));
     print("sheet", cuhnavel_check_sheet(sheet, sizeof sheet));
+    print("sheet of version 2", cuhnavel_check_sheet(sheet_2, sizeof sheet_2));
+    print("sheet of version 3", cuhnavel_check_sheet(version_3, sizeof version_3));
     print("sheet, step above the bound", cuhnavel_check_sheet(step_above_bound, sizeof step_above_bound));
     return 0;
 }

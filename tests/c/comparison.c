@@ -8,10 +8,11 @@
 
 #define PAIRS 6
 #define ROOM (10 + 44 * PAIRS)
+#define ROOM_2 (10 + 52 * PAIRS) /* if a book is of version 2 */
 #define SCRATCH (16 * PAIRS)
 
 static uint16_t map[PAIRS + 1];
-static uint8_t room[ROOM + 1];
+static uint8_t room[ROOM_2 + 1];
 static uint8_t scratch[SCRATCH + 1];
 
 static void refused(const char *name, uint64_t answer)
@@ -28,17 +29,19 @@ static size_t count(const uint8_t *bytes, size_t len, uint8_t value)
     return many;
 }
 
-static void compare(size_t bound)
+/* Compares the left book, in one of its versions, with as much room as this takes. */
+static void compare(const uint8_t *one, size_t one_len, size_t room_len, size_t bound)
 {
     memset(map, 0xff, sizeof map);
     memset(room, 0xff, sizeof room);
     memset(scratch, 0xff, sizeof scratch);
-    uint64_t answer = cuhnavel_compare(left, sizeof left, right, sizeof right, bound, map, PAIRS, room, ROOM, scratch, SCRATCH);
+    uint64_t answer = cuhnavel_compare(one, one_len, right, sizeof right, bound, map, PAIRS, room, room_len, scratch, SCRATCH);
     size_t length = CUHNAVEL_FIRST(answer);
     uint64_t check = cuhnavel_check_sheet(room, length);
 
-    printf("bound %zu: refusal %" PRIu32 ", matched %" PRIu32 "; check of the sheet: refusal %" PRIu32 ", bound %" PRIu32 "\n",
-           bound, CUHNAVEL_REFUSAL(answer), CUHNAVEL_SECOND(answer), CUHNAVEL_REFUSAL(check), CUHNAVEL_SECOND(check));
+    printf("left of version %u, bound %zu: refusal %" PRIu32 ", matched %" PRIu32 "; sheet of version %u, its check: refusal %" PRIu32
+           ", bound %" PRIu32 "\n",
+           one[4], bound, CUHNAVEL_REFUSAL(answer), CUHNAVEL_SECOND(answer), room[4], CUHNAVEL_REFUSAL(check), CUHNAVEL_SECOND(check));
     for (size_t i = 0; i < 3; i++)
         printf("row %zu: count %" PRIu32 " word %" PRIu64 "\n", i, CUHNAVEL_FIRST(cuhnavel_row(map, PAIRS, 2, i)),
                cuhnavel_row_word(map, PAIRS, 2, i));
@@ -46,32 +49,36 @@ static void compare(size_t bound)
     for (size_t place = 0; place < PAIRS; place++) {
         if (map[place] == 0)
             continue;
-        uint64_t claim = cuhnavel_claim(left, sizeof left, right, sizeof right, room, length, map[place], place / 2, place % 2,
+        uint64_t claim = cuhnavel_claim(one, one_len, right, sizeof right, room, length, map[place], place / 2, place % 2,
                                         words, 4 * PAIRS + 1);
         printf("claim of left %zu, right %zu: %" PRIu32 "\n", place / 2, place % 2, CUHNAVEL_FIRST(claim));
     }
     printf("bytes after the sheet as they were: %s; zeros in the scratch: %zu; map, room and scratch beyond: %x %x %x\n",
-           count(room + length, ROOM - length, 0xff) == ROOM - length ? "yes" : "no", count(scratch, SCRATCH, 0), map[PAIRS],
-           room[ROOM], scratch[SCRATCH]);
+           count(room + length, room_len - length, 0xff) == room_len - length ? "yes" : "no", count(scratch, SCRATCH, 0), map[PAIRS],
+           room[room_len], scratch[SCRATCH]);
 }
 
 int main(void)
 {
     uint8_t other[sizeof left];
 
-    for (size_t bound = 0; bound <= 1; bound++)
-        compare(bound);
+    for (size_t bound = 0; bound <= 1; bound++) {
+        compare(left, sizeof left, ROOM, bound);
+        compare(left_2, sizeof left_2, ROOM_2, bound);
+    }
 
     memset(room, 0xff, sizeof room);
     refused("bound 5", cuhnavel_compare(left, sizeof left, right, sizeof right, 5, map, PAIRS, room, ROOM, scratch, SCRATCH));
     refused("bound 256", cuhnavel_compare(left, sizeof left, right, sizeof right, 256, map, PAIRS, room, ROOM, scratch, SCRATCH));
     memcpy(other, left, sizeof left);
-    other[4] = 2;
-    refused("left of version 2", cuhnavel_compare(other, sizeof left, right, 7, 1, map, PAIRS, room, ROOM, scratch, SCRATCH));
+    other[4] = 3;
+    refused("left of version 3", cuhnavel_compare(other, sizeof left, right, 7, 1, map, PAIRS, room, ROOM, scratch, SCRATCH));
     refused("right of 7 bytes", cuhnavel_compare(left, sizeof left, right, 7, 1, map, 5, room, ROOM, scratch, SCRATCH));
     refused("map of 7", cuhnavel_compare(left, sizeof left, right, sizeof right, 1, map, 7, room, 273, scratch, SCRATCH));
     refused("room of 273", cuhnavel_compare(left, sizeof left, right, sizeof right, 1, map, PAIRS, room, 273, scratch, 95));
     refused("scratch of 95", cuhnavel_compare(left, sizeof left, right, sizeof right, 1, map, PAIRS, room, 274, scratch, 95));
+    refused("left of version 2, room of 321", cuhnavel_compare(left_2, sizeof left_2, right, sizeof right, 1, map, PAIRS, room, 321, scratch, 95));
+    refused("left of version 2, scratch of 95", cuhnavel_compare(left_2, sizeof left_2, right, sizeof right, 1, map, PAIRS, room, 322, scratch, 95));
     printf("room as it was: %s\n", count(room, sizeof room, 0xff) == sizeof room ? "yes" : "no");
     return 0;
 }

@@ -28,6 +28,19 @@ int main(void)
         6, 6, 0, 1, 1, 0, 0,
         3, 1, 0, 1,
     };
+    /* The same in version 2, and with label 257 in the place of 1. */
+    const uint8_t sheet_2[] = {
+        0, 0, 0, 22, 2, 1, 0, 3,
+        1, 0,
+        7, 6, 0, 1, 0, 1, 0, 0,
+        3, 1, 0, 1,
+    };
+    const uint8_t sheet_257[] = {
+        0, 0, 0, 22, 2, 1, 0, 3,
+        1, 0,
+        7, 6, 0, 1, 1, 1, 0, 0,
+        3, 1, 0, 1,
+    };
     /* A map of example A at bound 1, with entry 1 for each parted pair. */
     const uint16_t map[] = {1, 1, 1, 0, 1, 0};
     uint64_t words[4] = {9, 9, 9, 9};
@@ -43,6 +56,15 @@ int main(void)
           cuhnavel_claim(left, sizeof left, right, sizeof right, sheet, sizeof sheet, 2, 2, 1, words, 4));
     print("claim, right cell 2",
           cuhnavel_claim(left, sizeof left, right, sizeof right, sheet, sizeof sheet, 1, 2, 2, words, 4));
+    print("truth, book of version 2", cuhnavel_truth(left_2, sizeof left_2, sheet, sizeof sheet, words, 4));
+    print_words(words, 4);
+    print("truth, sheet of version 2", cuhnavel_truth(left, sizeof left, sheet_2, sizeof sheet_2, words, 4));
+    print_words(words, 4);
+    print("truth, both of version 2, label 257", cuhnavel_truth(left_2, sizeof left_2, sheet_257, sizeof sheet_257, words, 4));
+    print_words(words, 4);
+    print("claim, all of version 2 but the right book",
+          cuhnavel_claim(left_2, sizeof left_2, right, sizeof right, sheet_2, sizeof sheet_2, 1, 0, 0, words, 4));
+    print_words(words, 4);
     for (size_t i = 0; i < 4; i++) {
         print("row", cuhnavel_row(map, 6, 2, i));
         printf("word: %" PRIu64 "\n", cuhnavel_row_word(map, 6, 2, i));
@@ -50,8 +72,10 @@ int main(void)
     print("pair, place 0", cuhnavel_pair(map, 6, 0, sheet, sizeof sheet));
     print("pair, place 3", cuhnavel_pair(map, 6, 3, sheet, sizeof sheet));
     print("pair, place 6", cuhnavel_pair(map, 6, 6, sheet, sizeof sheet));
+    print("pair, place 0, sheet of version 2", cuhnavel_pair(map, 6, 0, sheet_2, sizeof sheet_2));
     print("links of cell 0", cuhnavel_links(left, sizeof left, 0));
     print("links of cell 2", cuhnavel_links(left, sizeof left, 2));
     print("links of cell 3", cuhnavel_links(left, sizeof left, 3));
+    print("links of cell 0, version 2", cuhnavel_links(left_2, sizeof left_2, 0));
     return 0;
 }

@@ -68,10 +68,19 @@ int main(void)
         6, 5, 1, 0, 7, 0, 0,
         9, 6, 0, 2, 9, 0, 0, 10, 0, 7,
     };
+    /* Version 2, bound 1; true, a way by the labels 256 and 65,535, and "same: step 10,000, stay". */
+    const uint8_t sheet_2[] = {
+        0, 0, 0, 29, 2, 1, 0, 3,
+        1, 0,
+        10, 4, 2, 1, 0, 0, 0, 255, 255, 0, 0,
+        7, 5, 1, 0, 39, 16, 0, 0,
+    };
     const char *const names[] = {"true", "not", "and", "or", "way, no steps", "way", "way, two steps", "same", "differ"};
 
     for (size_t entry = 0; entry < 9; entry++)
         ask(names[entry], sheet, sizeof sheet, entry, ROOM);
+    ask("version 2, way, two steps", sheet_2, sizeof sheet_2, 1, ROOM);
+    ask("version 2, same", sheet_2, sizeof sheet_2, 2, ROOM);
     ask_compare();
     ask("18 bytes of room", sheet, sizeof sheet, 3, 18);
     ask("17 bytes of room", sheet, sizeof sheet, 3, 17);

@@ -1,8 +1,9 @@
-//! When Compare declines, written from document 01, "The operations and when they decline".
+//! When Compare declines, written from document 01, "The operations and when they decline", and document 02, request 2026-02.
 
 use crate::support::checks::check_book;
 use crate::support::library::needed;
 use crate::support::outcome::{refused, Outcome, CALL, LEFT_BOOK, RIGHT_BOOK};
+use crate::support::versions::written_version;
 
 /// What Compare is asked, and how much is lent.
 #[derive(Clone, Copy)]
@@ -13,6 +14,13 @@ pub struct Asked<'a> {
     pub map: usize,
     pub room: usize,
     pub scratch: usize,
+}
+
+impl Asked<'_> {
+    /// The version of the sheet that is written for two accepted books.
+    pub fn version(&self) -> u8 {
+        written_version(self.left[4], self.right[4])
+    }
 }
 
 /// The first refusal that applies, if any.
@@ -30,7 +38,9 @@ pub fn refusal(asked: Asked) -> Option<Outcome> {
         }
     }
     // "21: map length not n × m (m right cells). 22: sheet room below 10 + 44 × n × m bytes. 23: scratch below 16 × n × m."
-    let (map, room, scratch) = needed(left.first as usize * right.first as usize);
+    // "Compare writes version 2 if either book is version 2, and then 22 is judged at 10 + 52 × n × m."
+    let pairs = left.first as usize * right.first as usize;
+    let (map, room, scratch) = needed(pairs, asked.version());
     if asked.map != map {
         return Some(refused(CALL, 21));
     }

@@ -1,14 +1,15 @@
 //! Books that are compared.
 
-use crate::expected::Asked;
+use crate::expected::{refusal, Asked};
 use crate::support::books::{
     book, chain, example_a_left, example_a_right, link, random_book, Book,
 };
 use crate::support::library::needed;
 use crate::support::partners::most_ways;
 use crate::support::random::Random;
-use crate::support::remade::{damaged, renumbered, split};
+use crate::support::remade::{any_labels, damaged, renumbered, split};
 use crate::support::shapes::{draw, OTHERS, SHAPES};
+use crate::support::versions::{written_version, MIXES};
 use crate::tally::{Tally, TENS};
 
 /// The most ways from a cell of a book of 10 to 20 cells, and of a dense one.
@@ -40,7 +41,8 @@ pub fn all(tally: &mut Tally) {
 
 /// Exactly what two books need.
 fn exactly<'a>(left: &'a [u8], right: &'a [u8], bound: usize) -> Asked<'a> {
-    let (map, room, scratch) = needed(left[5] as usize * right[5] as usize);
+    let pairs = left[5] as usize * right[5] as usize;
+    let (map, room, scratch) = needed(pairs, written_version(left[4], right[4]));
     Asked {
         left,
         right,
@@ -51,7 +53,7 @@ fn exactly<'a>(left: &'a [u8], right: &'a [u8], bound: usize) -> Asked<'a> {
     }
 }
 
-/// Compares two books with as much room and scratch as they need, or some more.
+/// Compares two books, of any versions, with as much room and scratch as they need, or some more.
 fn ask(
     tally: &mut Tally,
     random: &mut Random,
@@ -61,7 +63,7 @@ fn ask(
     shape: usize,
     claims: usize,
 ) {
-    let (left, right) = (left.bytes(), right.bytes());
+    let (left, right) = (left.any_bytes(random), right.any_bytes(random));
     let mut asked = exactly(&left, &right, bound);
     asked.room += random.pick(&[0, 0, 1, 7, 100]);
     asked.scratch += random.pick(&[0, 0, 1, 9, 100]);
@@ -101,15 +103,19 @@ fn examples(tally: &mut Tally) {
     expect(tally, &looping, &two([5, 6]), 1, &[], &[(0, 0), (0, 1)]);
     expect(tally, &looping, &two([5, 6]), 0, &[(0, 0), (0, 1)], &[]);
 
-    // "Room of 273 bytes declines A; 274 serves."
-    let (a, b) = (a.bytes(), b.bytes());
-    for room in [273, 274] {
-        for bound in 0..=4 {
-            let asked = Asked {
-                room,
-                ..exactly(&a, &b, bound)
-            };
-            tally.compare(asked, OTHERS, usize::MAX);
+    // "Room of 273 bytes declines A; 274 serves." If a book is of version 2, 10 + 52 × 6 bytes serve.
+    for [one, other] in MIXES {
+        let serves = if [one, other] == [1, 1] { 274 } else { 322 };
+        let (a, b) = (a.bytes(one), b.bytes(other));
+        for room in [serves - 1, serves] {
+            for bound in 0..=4 {
+                let asked = Asked {
+                    room,
+                    ..exactly(&a, &b, bound)
+                };
+                assert_eq!(refusal(asked).is_none(), room == serves);
+                tally.compare(asked, OTHERS, usize::MAX);
+            }
         }
     }
 }
@@ -170,6 +176,7 @@ fn by_hand(tally: &mut Tally) {
     }
 }
 
+/// In every mix of versions these pairs are matched, and these are parted.
 fn expect(
     tally: &mut Tally,
     left: &Book,
@@ -178,11 +185,13 @@ fn expect(
     matched: &[(usize, usize)],
     parted: &[(usize, usize)],
 ) {
-    let (one, other) = (left.bytes(), right.bytes());
-    let map = tally.compare(exactly(&one, &other, bound), OTHERS, usize::MAX);
     let m = right.cells();
-    assert!(matched.iter().all(|(i, j)| map[i * m + j] == 0));
-    assert!(parted.iter().all(|(i, j)| map[i * m + j] != 0));
+    for [one, other] in MIXES {
+        let (one, other) = (left.bytes(one), right.bytes(other));
+        let map = tally.compare(exactly(&one, &other, bound), OTHERS, usize::MAX);
+        assert!(matched.iter().all(|(i, j)| map[i * m + j] == 0));
+        assert!(parted.iter().all(|(i, j)| map[i * m + j] != 0));
+    }
 }
 
 /// Thousands of small books.
@@ -229,6 +238,7 @@ fn middling(tally: &mut Tally, random: &mut Random) {
     for bound in 0..=4 {
         for round in 0..MIDDLING {
             let (left, right) = draw_middling(random, round, bound);
+            let [left, right] = any_labels(random, [left, right]);
             ask(tally, random, &left, &right, bound, TENS, SOME_CLAIMS);
         }
     }
@@ -308,7 +318,7 @@ fn large(tally: &mut Tally, random: &mut Random) {
     let mut full = random_book(random, 64, 0, 1, 3);
     for from in 0..64 {
         full.links
-            .extend((0..8).map(|label| link(from, label * 36, random.below(64) as u8)));
+            .extend((0..8).map(|label| link(from, label * 8_192, random.below(64) as u8)));
     }
     let other = renumbered(random, &full);
     ask(random, &full, &other, 0);
@@ -348,6 +358,7 @@ fn ask_dense(tally: &mut Tally, random: &mut Random, cells: usize, labels: usize
             break book;
         }
     };
+    let [book] = any_labels(random, [book]);
     let other = renumbered(random, &book);
     ask(tally, random, &book, &other, bound, TENS, SOME_CLAIMS);
     let other = damaged(random, &other);
@@ -372,7 +383,7 @@ fn many_values(tally: &mut Tally, random: &mut Random) {
             .extend(seven.iter().map(|&to| link(0, label, to)));
         right
             .links
-            .extend((1..=13).map(|from| link(from, label, (from + label - 1) % 13 + 1)));
+            .extend((1..=13).map(|from| link(from, label, (from + label as u8 - 1) % 13 + 1)));
     }
     left.links.sort();
     right.links.sort();

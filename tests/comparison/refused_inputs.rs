@@ -6,6 +6,7 @@ use crate::support::library::needed;
 use crate::support::random::Random;
 use crate::support::refusals::{book_refused, change_byte};
 use crate::support::shapes::OTHERS;
+use crate::support::versions::written_version;
 use crate::tally::Tally;
 
 pub fn all(tally: &mut Tally) {
@@ -15,10 +16,12 @@ pub fn all(tally: &mut Tally) {
     damaged(tally, random);
 }
 
-/// How many pairs the headers speak of, as far as there are headers.
-fn pairs(left: &[u8], right: &[u8]) -> usize {
+/// What is needed for the pairs and versions that the headers speak of, as far as there are headers.
+fn needed_by(left: &[u8], right: &[u8]) -> (usize, usize, usize) {
+    let version = |book: &[u8]| *book.get(4).unwrap_or(&1);
     let cells = |book: &[u8]| (*book.get(5).unwrap_or(&1)).clamp(1, 8) as usize;
-    cells(left) * cells(right)
+    let version = written_version(version(left), version(right));
+    needed(cells(left) * cells(right), version)
 }
 
 /// A bound that is too large: just so, or one of which the low bits are not.
@@ -48,7 +51,7 @@ fn every_order(tally: &mut Tally, random: &mut Random) {
                 let right = book_refused(random, of_right);
                 let [far, other_map, little_room, little_scratch] =
                     [1, 2, 4, 8].map(|bit| round & bit != 0);
-                let (map, room, scratch) = needed(pairs(&left, &right));
+                let (map, room, scratch) = needed_by(&left, &right);
                 let below = |random: &mut Random, count: usize| match random.below(3) {
                     0 => count - 1,
                     1 => 0,
@@ -83,7 +86,7 @@ fn lengths(tally: &mut Tally, random: &mut Random) {
     for round in 0..60 {
         let left = book_refused(random, 0);
         let right = book_refused(random, 0);
-        let (map, room, scratch) = needed(pairs(&left, &right));
+        let (map, room, scratch) = needed_by(&left, &right);
         let asked = Asked {
             left: &left,
             right: &right,
@@ -123,7 +126,7 @@ fn damaged(tally: &mut Tally, random: &mut Random) {
             };
             change_byte(random, bytes);
         }
-        let (map, room, scratch) = needed(pairs(&left, &right));
+        let (map, room, scratch) = needed_by(&left, &right);
         let asked = Asked {
             left: &left,
             right: &right,

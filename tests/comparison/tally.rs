@@ -5,7 +5,7 @@ use crate::searches::{Searches, Written};
 use crate::support::books::Book;
 use crate::support::call::Call;
 use crate::support::checks::check_sheet;
-use crate::support::counts::{Counts, OF_BOOK};
+use crate::support::counts::{Counts, Versions, OF_BOOK};
 use crate::support::described::compared;
 use crate::support::lent::Lent;
 use crate::support::library;
@@ -38,6 +38,8 @@ pub const TENS: usize = OTHERS + 1;
 pub struct Tally {
     random: Random,
     compare: Counts,
+    /// Of the left book and the right one.
+    versions: Versions,
     claims: usize,
     turn: usize,
     /// Of each shape, by its place in `SHAPES`, of all others and of `TENS` at the end; by bound.
@@ -57,6 +59,7 @@ impl Tally {
         Tally {
             random: Random::new(7),
             compare: Counts::new("compare"),
+            versions: Versions::default(),
             claims: 0,
             turn: 0,
             pairs: Default::default(),
@@ -128,7 +131,8 @@ impl Tally {
                     map: lent_map.values(),
                     room: lent_room.values(),
                 };
-                let sheet = written_sheet(&call, &written, &room, asked.bound);
+                let sheet = written_sheet(&call, &written, &room, asked);
+                self.versions.count(&[asked.left, asked.right]);
                 self.pairs(&call, asked, &written, &sheet, shape);
                 self.claims(&call, asked, &written, claims);
             }
@@ -163,7 +167,7 @@ impl Tally {
             if rounds(&one, &other, asked.bound) != by_loops {
                 call.fail("the naive comparison and all pairs of paths give different rounds");
             }
-            let by_first_reasons = compared(&one, &other, asked.bound);
+            let by_first_reasons = compared(&one, &other, asked.bound, asked.version());
             let Written { answer, map, room } = *written;
             if let Some(what) = by_first_reasons.difference(answer, map, room) {
                 call.fail(&what);
@@ -256,6 +260,7 @@ impl Tally {
                 (CALL, &[20, 21, 22, 23]),
             ],
         );
+        self.versions.report("compare");
         self.report_pairs();
         let parted: usize = self.depths.values().sum();
         println!(
@@ -322,8 +327,8 @@ impl Tally {
 }
 
 /// "The sheet is accepted by its check, has bound c, and starts the room; bytes after it are unchanged." "The answer holds the
-/// sheet's length and the number of zeros in the map."
-fn written_sheet(call: &Call, written: &Written, before: &[u8], bound: usize) -> Sheet {
+/// sheet's length and the number of zeros in the map." Its version is the one that is asked for.
+fn written_sheet(call: &Call, written: &Written, before: &[u8], asked: Asked) -> Sheet {
     let length = written.answer.first as usize;
     if length < 10 || length > written.room.len() {
         call.fail(&format!("the sheet has {length} bytes"));
@@ -331,8 +336,11 @@ fn written_sheet(call: &Call, written: &Written, before: &[u8], bound: usize) ->
     let (bytes, after) = written.room.split_at(length);
     // Refusal 2 where the length is not that of the sheet's own field.
     let check = check_sheet(bytes);
-    if check.refusal != 0 || check.second as usize != bound {
+    if check.refusal != 0 || check.second as usize != asked.bound {
         call.fail(&format!("the check of the sheet gives {check:?}"));
+    }
+    if bytes[4] != asked.version() {
+        call.fail(&format!("the sheet is of version {}", bytes[4]));
     }
     if *after != before[length..] {
         call.fail("bytes after the sheet were changed");

@@ -2,30 +2,31 @@
 
 use crate::support::books::{book, chain, example_a_left, example_a_right, link, Book};
 use crate::support::sheets::Entry::{And, Differ, Not, Same, True, Way};
-use crate::support::sheets::{step, Entry, Step};
+use crate::support::sheets::{step, Entry, Sheet, Step};
 use crate::tally::Tally;
 
 pub fn all(tally: &mut Tally) {
     example_a(tally);
     chains(tally);
     links(tally);
+    wide_labels(tally);
     paths(tally);
 }
 
 /// Steps along these labels, with always true as tests.
-fn steps(labels: &[u8]) -> Vec<Step> {
+fn steps(labels: &[u16]) -> Vec<Step> {
     labels.iter().map(|&label| step(label, 0)).collect()
 }
 
-fn way(label: u8) -> Entry {
+fn way(label: u16) -> Entry {
     Way(steps(&[label]))
 }
 
-fn same(first: &[u8], second: &[u8]) -> Entry {
+fn same(first: &[u16], second: &[u16]) -> Entry {
     Same(steps(first), steps(second))
 }
 
-fn differ(first: &[u8], second: &[u8]) -> Entry {
+fn differ(first: &[u16], second: &[u16]) -> Entry {
     Differ(steps(first), steps(second))
 }
 
@@ -52,8 +53,9 @@ fn example_a(tally: &mut Tally) {
     let (left, right) = (example_a_left(), example_a_right());
     for bound in 1..=4 {
         let sheet = whole(tally, &left, &right, bound, &map, &entries);
-        // The entry after always true: 6 bytes follow, kind 6, 0 steps and 1 step, label 1, test 0.
-        assert_eq!(sheet[10..][..7], [6, 6, 0, 1, 1, 0, 0]);
+        // The entry after always true: 6 bytes follow, or 7; kind 6, 0 steps and 1 step, label 1, test 0.
+        assert_eq!(sheet.bytes(1)[10..][..7], [6, 6, 0, 1, 1, 0, 0]);
+        assert_eq!(sheet.bytes(2)[10..][..8], [7, 6, 0, 1, 0, 1, 0, 0]);
     }
 }
 
@@ -83,7 +85,7 @@ fn chains(tally: &mut Tally) {
     }
 }
 
-/// Compares the books: the map is this one, and the entries are these after always true. Gives the sheet's bytes.
+/// Compares the books in every mix of versions: the map is this one, and the entries are these after always true. Gives the sheet.
 fn whole(
     tally: &mut Tally,
     left: &Book,
@@ -91,11 +93,11 @@ fn whole(
     bound: usize,
     map: &[u16],
     entries: &[Entry],
-) -> Vec<u8> {
-    let (given, sheet) = tally.compare(left, right, bound);
+) -> Sheet {
+    let (given, sheet) = tally.every_mix(left, right, bound);
     assert_eq!(given, map);
     assert_eq!(sheet.entries, [&[True][..], entries].concat());
-    sheet.bytes()
+    sheet
 }
 
 /// Links are tried before paths, each in their order, and the left cell's before the right one's.
@@ -108,6 +110,21 @@ fn links(tally: &mut Tally) {
     first(tally, &one(9), &one(3), 4, true, way(9));
     first(tally, &two(1, 2), &one(1), 4, true, way(2));
     first(tally, &one(1), &two(1, 2), 4, true, same(&[], &[1]));
+}
+
+/// Labels that agree in one byte are different ones, and come in the order of their numbers.
+fn wide_labels(tally: &mut Tally) {
+    let none = book(&[5], &[]);
+    let one = |label| book(&[5, 5], &[link(0, label, 1)]);
+    let two = |x, y| book(&[5, 6], &[link(0, x, 1), link(0, y, 1)]);
+    for [x, y] in [[1, 257], [255, 65_535], [256, 511], [0, 256], [255, 256]] {
+        first(tally, &one(x), &one(y), 4, true, way(x));
+        first(tally, &one(y), &one(x), 4, true, way(y));
+        first(tally, &two(x, y), &one(x), 4, true, way(y));
+        first(tally, &two(x, y), &one(y), 4, true, way(x));
+        first(tally, &two(x, y), &none, 4, true, way(x));
+        first(tally, &none, &two(x, y), 4, false, way(x));
+    }
 }
 
 /// Two paths with fewest links in all are tried first, of these those with the shorter first path, then in the order of the links.
@@ -133,9 +150,10 @@ fn paths(tally: &mut Tally) {
     first(tally, &alike, &all, 4, true, same(&[1], &[2]));
 }
 
-/// Compares the books: the first pair is parted in the first round, by this entry at the left cell or else at the right one.
+/// Compares the books in every mix of versions: the first pair is parted in the first round, by this entry at the left cell or else at
+/// the right one.
 fn first(tally: &mut Tally, left: &Book, right: &Book, bound: usize, at_left: bool, entry: Entry) {
-    let (map, sheet) = tally.compare(left, right, bound);
+    let (map, sheet) = tally.every_mix(left, right, bound);
     assert_eq!(map[0], if at_left { 1 } else { 2 });
     assert_eq!(sheet.entries[1], entry);
     assert_eq!(sheet.entries[2], Not(1));

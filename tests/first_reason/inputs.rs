@@ -1,12 +1,12 @@
 //! Pairs of small books that are compared.
 
-use crate::support::books::{book, link, Book};
+use crate::support::books::{book, link};
 use crate::support::random::Random;
 use crate::support::shapes::{draw, SHAPES};
 use crate::tally::Tally;
 
 /// How many pairs of books of each shape at each bound.
-const DRAWN: usize = 2_000;
+const DRAWN: usize = 1_800;
 
 pub fn all(tally: &mut Tally) {
     let random = &mut Random::new(15);
@@ -36,28 +36,17 @@ fn every_small(tally: &mut Tally) {
     }
 }
 
-/// Books of every shape: any, and made from one another. Some are given any labels.
+/// Books of every shape: any, and made from one another.
 fn by_shape(tally: &mut Tally, random: &mut Random) {
     for shape in &SHAPES {
         for bound in 0..=4 {
-            for _ in 0..DRAWN {
-                let (mut left, mut right) = draw(random, shape, bound);
-                if random.one_in(4) {
-                    relabel(random, &mut left, &mut right);
-                }
-                tally.compare(&left, &right, bound);
+            for round in 0..DRAWN {
+                let (left, right) = draw(random, shape, bound);
+                match round % 20 {
+                    0 => tally.every_mix(&left, &right, bound),
+                    _ => tally.compare(&left, &right, bound),
+                };
             }
         }
-    }
-}
-
-/// Gives two books other labels: the same for the same, different ones for different ones.
-fn relabel(random: &mut Random, left: &mut Book, right: &mut Book) {
-    let (factor, added) = (random.byte() | 1, random.byte());
-    for book in [left, right] {
-        for link in &mut book.links {
-            link.label = link.label.wrapping_mul(factor).wrapping_add(added);
-        }
-        book.links.sort();
     }
 }

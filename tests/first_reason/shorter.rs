@@ -28,8 +28,7 @@ impl Shorter {
             _ => 0,
         };
         let most = (0..map.len()).map(steps).max().unwrap_or(0);
-        let links = left.links.iter().chain(&right.links);
-        let labels: BTreeSet<u8> = links.map(|link| link.label).collect();
+        let labels: BTreeSet<u16> = left.labels().chain(right.labels()).collect();
         for total in 0..most {
             let questions = questions(&labels, sheet.bound as usize, total);
             let of_left = sheet_cells(left, &questions);
@@ -61,7 +60,7 @@ impl Shorter {
 }
 
 /// Every same and differ within the bound of so many steps in all, after always true, which is the only test.
-fn questions(labels: &BTreeSet<u8>, bound: usize, total: usize) -> Sheet {
+fn questions(labels: &BTreeSet<u16>, bound: usize, total: usize) -> Sheet {
     let mut entries = vec![Entry::True];
     for first in total.saturating_sub(bound)..=total.min(bound) {
         let seconds = ways(labels, total - first);
@@ -79,10 +78,10 @@ fn questions(labels: &BTreeSet<u8>, bound: usize, total: usize) -> Sheet {
 }
 
 /// The ways of so many steps.
-fn ways(labels: &BTreeSet<u8>, steps: usize) -> Vec<Vec<Step>> {
+fn ways(labels: &BTreeSet<u16>, steps: usize) -> Vec<Vec<Step>> {
     let mut all: Vec<Vec<Step>> = vec![vec![]];
     for _ in 0..steps {
-        let longer = |&label: &u8| {
+        let longer = |&label: &u16| {
             let last = [step(label, 0)];
             all.iter().map(move |way| [&way[..], &last].concat())
         };

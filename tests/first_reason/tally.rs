@@ -3,12 +3,14 @@
 use crate::shorter::Shorter;
 use crate::support::books::Book;
 use crate::support::call::Call;
+use crate::support::counts::Versions;
 use crate::support::described::compared;
 use crate::support::lent::Lent;
 use crate::support::library::{self, needed};
 use crate::support::loops::Reason;
 use crate::support::random::Random;
 use crate::support::sheets::Sheet;
+use crate::support::versions::{any_version, versions_of, written_version};
 
 /// The most steps in all of a comparison: two ways of 4.
 const MOST_STEPS: usize = 8;
@@ -27,6 +29,8 @@ struct Named {
 pub struct Tally {
     random: Random,
     turn: usize,
+    /// Of the left book and the right one.
+    versions: Versions,
     by_bound: [Named; 5],
     shorter: Shorter,
 }
@@ -36,16 +40,44 @@ impl Tally {
         Tally {
             random: Random::new(16),
             turn: 0,
+            versions: Versions::default(),
             by_bound: Default::default(),
             shorter: Shorter::default(),
         }
     }
 
-    /// The library's answer, map and sheet are those of the plain loops, and bytes after the sheet are unchanged. Where the map
-    /// names a comparison, no shorter one parts the cells. Gives the map and the sheet.
+    /// Compares the books in any versions that have their labels. Gives the map and the sheet.
     pub fn compare(&mut self, left: &Book, right: &Book, bound: usize) -> (Vec<u16>, Sheet) {
-        let (one, other) = (left.bytes(), right.bytes());
-        let (map, room, scratch) = needed(left.cells() * right.cells());
+        let one = any_version(&mut self.random, left.labels());
+        let other = any_version(&mut self.random, right.labels());
+        self.compare_in([one, other], left, right, bound)
+    }
+
+    /// Compares the books in every mix of versions that have their labels: all leave the same map and, but for the version, the same
+    /// sheet. Gives these.
+    pub fn every_mix(&mut self, left: &Book, right: &Book, bound: usize) -> (Vec<u16>, Sheet) {
+        let mut written = Vec::new();
+        for &one in versions_of(left.labels()) {
+            for &other in versions_of(right.labels()) {
+                written.push(self.compare_in([one, other], left, right, bound));
+            }
+        }
+        assert!(written.windows(2).all(|two| two[0] == two[1]));
+        written.remove(0)
+    }
+
+    /// In these versions the library's answer, map and sheet are those of the plain loops, and bytes after the sheet are unchanged.
+    /// Where the map names a comparison, no shorter one parts the cells. Gives the map and the sheet.
+    fn compare_in(
+        &mut self,
+        [one, other]: [u8; 2],
+        left: &Book,
+        right: &Book,
+        bound: usize,
+    ) -> (Vec<u16>, Sheet) {
+        let version = written_version(one, other);
+        let (one, other) = (left.bytes(one), right.bytes(other));
+        let (map, room, scratch) = needed(left.cells() * right.cells(), version);
         let more = self.random.pick(&[0, 1, 7, 100]);
         let around = self.random.byte();
         let map: Vec<u16> = (0..map).map(|_| self.random.next() as u16).collect();
@@ -67,7 +99,7 @@ impl Tally {
             numbers: format!("case {}, bound {bound}", self.turn),
             inputs: &[("left book", &one), ("right book", &other)],
         };
-        let expected = compared(left, right, bound);
+        let expected = compared(left, right, bound, version);
         if let Some(what) = expected.difference(answer, lent_map.values(), lent_room.values()) {
             call.fail(&what);
         }
@@ -79,6 +111,7 @@ impl Tally {
             call.fail("what is beside the map or the room was changed");
         }
         let sheet = Sheet::of_bytes(&expected.sheet);
+        self.versions.count(&[&one, &other]);
         self.count(&expected.map, &sheet);
         self.shorter
             .check(&call, left, right, &expected.map, &sheet);
@@ -126,6 +159,7 @@ impl Tally {
             }
         }
         self.shorter.report();
+        self.versions.report("compare");
         self.turn
     }
 }

@@ -89,7 +89,7 @@ pub fn tiny(tally: &mut Tally, random: &mut Random) {
 /// Every header from a few values a field, before a few bytes: the order of the header's refusals.
 pub fn headers(tally: &mut Tally, byte_5: &[u8], bytes_6_7: &[u16], rest: &[u8]) {
     for length in 0..rest.len() as u32 + 16 {
-        for version in [0, 1, 2, 255] {
+        for version in [0, 1, 2, 3, 255] {
             for &byte in byte_5 {
                 for &field in bytes_6_7 {
                     for count in 0..=rest.len() {

@@ -1,4 +1,5 @@
-//! The library's two checks, compared with an independent check written from document 01, on accepted and damaged inputs.
+//! The library's two checks, compared with an independent check written from document 01, on accepted and damaged inputs of both
+//! versions.
 
 mod book_inputs;
 mod damage;

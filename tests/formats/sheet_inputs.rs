@@ -7,21 +7,25 @@ use crate::support::sheets::{
     counted, random_entry, random_number, random_sheet, random_steps, sheet_bytes, step, Entry,
     Sheet,
 };
+use crate::support::versions::{all_labels, step_width, VERSIONS};
 use crate::support::{changed, set_length};
 use crate::tally::Tally;
 
 const MOST_ENTRIES: usize = 16_385;
 const MOST_STEPS: usize = 60;
-const ANY_LABEL: usize = 256;
 
 pub fn all(tally: &mut Tally) {
     let random = &mut Random::new(2);
     by_hand(tally);
-    sizes(tally, random);
-    limits(tally, random);
-    numbers(tally, random);
-    second_entries(tally);
-    small(tally, random);
+    for version in VERSIONS {
+        sizes(tally, random, version);
+        longest(tally, random, version);
+        limits(tally, random, version);
+        numbers(tally, random, version);
+        second_entries(tally, version);
+        small(tally, random, version);
+        damage::past_the_length_field(tally, &example().bytes(version));
+    }
     faulty_entries(tally, random);
     likely_bytes(tally, random);
     damage::tiny(tally, random);
@@ -31,7 +35,6 @@ pub fn all(tally: &mut Tally) {
         &[0, 1, 2, 3, 16_385, 16_386],
         &[1, 0, 3, 1, 0, 0, 2, 4, 0],
     );
-    damage::past_the_length_field(tally, &example().bytes());
 }
 
 fn refusal(number: u8) -> Outcome {
@@ -48,18 +51,35 @@ fn example() -> Sheet {
 
 /// Answers found by hand: one input at least for each refusal, and two refusals at once.
 fn by_hand(tally: &mut Tally) {
-    let sheet = [0, 0, 0, 17, 1, 1, 0, 2, 1, 0, 6, 6, 0, 1, 1, 0, 0];
-    let changed = |changes: &[(usize, u8)]| changed(&sheet, changes);
-    tally.expect(&sheet, accepted(2, 1));
-    tally.expect(&example().bytes(), accepted(2, 1));
+    // The example in version 1 and in version 2: entry 1 is from byte 10 on, its step from byte 14 on.
+    let narrow = [0, 0, 0, 17, 1, 1, 0, 2, 1, 0, 6, 6, 0, 1, 1, 0, 0];
+    let wide = [0, 0, 0, 18, 2, 1, 0, 2, 1, 0, 7, 6, 0, 1, 0, 1, 0, 0];
+    for sheet in [&narrow[..], &wide] {
+        faults_by_hand(tally, sheet);
+        bodies_by_hand(tally, sheet[4]);
+    }
+    // Read in the other version, the body has not the size required, if there are steps.
+    tally.expect(&changed(&narrow, &[(4, 2)]), refusal(14));
+    tally.expect(&changed(&wide, &[(4, 1)]), refusal(14));
     tally.expect(&[0, 0, 0, 10, 1, 4, 0, 1, 1, 0], accepted(1, 4));
+    tally.expect(&[0, 0, 0, 10, 2, 4, 0, 1, 1, 0], accepted(1, 4));
     tally.expect(&[], refusal(1));
+}
+
+/// Changes of the example's sheet.
+fn faults_by_hand(tally: &mut Tally, sheet: &[u8]) {
+    let (length, last) = (sheet.len() as u8, sheet.len() - 1);
+    let count = sheet[10];
+    let changed = |changes: &[(usize, u8)]| changed(sheet, changes);
+    tally.expect(sheet, accepted(2, 1));
+    tally.expect(&example().bytes(sheet[4]), accepted(2, 1));
     tally.expect(&sheet[..7], refusal(1));
     tally.expect(&sheet[..8], refusal(2));
-    tally.expect(&changed(&[(3, 16)]), refusal(2));
+    tally.expect(&changed(&[(3, length - 1)]), refusal(2));
     tally.expect(&changed(&[(0, 1)]), refusal(2));
     tally.expect(&changed(&[(4, 0)]), refusal(3));
-    tally.expect(&changed(&[(4, 2), (5, 5)]), refusal(3));
+    tally.expect(&changed(&[(4, 3), (5, 5)]), refusal(3));
+    tally.expect(&changed(&[(4, 255)]), refusal(3));
     tally.expect(&changed(&[(5, 5)]), refusal(8));
     tally.expect(&changed(&[(7, 0)]), refusal(8));
     tally.expect(&changed(&[(6, 64)]), refusal(8)); // 16,386 entries
@@ -67,26 +87,30 @@ fn by_hand(tally: &mut Tally) {
     tally.expect(&changed(&[(7, 3)]), refusal(9)); // no count byte of entry 2
     tally.expect(&changed(&[(7, 1)]), refusal(9)); // bytes left over
     tally.expect(&changed(&[(8, 0)]), refusal(9));
-    tally.expect(&changed(&[(10, 7)]), refusal(9));
+    tally.expect(&changed(&[(10, count + 1)]), refusal(9));
     tally.expect(&changed(&[(10, 255), (11, 9)]), refusal(9));
-    tally.expect(&changed(&[(10, 5)]), refusal(14));
+    tally.expect(&changed(&[(10, count - 1)]), refusal(14));
     tally.expect(&changed(&[(9, 7)]), refusal(10)); // before 13
     tally.expect(&changed(&[(11, 7)]), refusal(10));
     tally.expect(&changed(&[(9, 1)]), refusal(13)); // before 14
-    tally.expect(&changed(&[(11, 4)]), refusal(14)); // a way of no steps with 4 bytes too many
+    tally.expect(&changed(&[(11, 4)]), refusal(14)); // a way of no steps with bytes too many
     tally.expect(&changed(&[(11, 0)]), refusal(14));
     tally.expect(&changed(&[(12, 2)]), refusal(11)); // before 14
     tally.expect(&changed(&[(13, 2)]), refusal(11));
     tally.expect(&changed(&[(5, 0)]), refusal(11));
     tally.expect(&changed(&[(12, 1)]), refusal(14)); // two steps, room for one
     tally.expect(&changed(&[(13, 0)]), refusal(14));
-    tally.expect(&changed(&[(13, 0), (16, 9)]), refusal(14)); // before 12
+    tally.expect(&changed(&[(13, 0), (last, 9)]), refusal(14)); // before 12
     tally.expect(&changed(&[(12, 1), (13, 0)]), accepted(2, 1));
-    tally.expect(&changed(&[(16, 1)]), refusal(12)); // its own number
-    tally.expect(&changed(&[(15, 1)]), refusal(12));
-    tally.expect(&changed(&[(14, 255)]), accepted(2, 1));
+    tally.expect(&changed(&[(last, 1)]), refusal(12)); // its own number
+    tally.expect(&changed(&[(last - 1, 1)]), refusal(12));
+    tally.expect(&changed(&[(14, 255), (last - 2, 255)]), accepted(2, 1));
+}
 
-    // Entry 1 of a sheet of bound 1: its kind byte and body.
+/// Entry 1 of a sheet of bound 1.
+fn bodies_by_hand(tally: &mut Tally, version: u8) {
+    let sheet = |body: &[u8]| sheet_bytes(version, 1, 2, &[counted(&[0]), counted(body)]);
+    // Its kind byte and body.
     for (body, expected) in [
         (&[0][..], accepted(2, 1)),
         (&[0, 0], refusal(14)),
@@ -105,42 +129,48 @@ fn by_hand(tally: &mut Tally) {
         (&[4, 0], accepted(2, 1)),
         (&[4, 61], refusal(11)),
         (&[4, 60], refusal(14)),
-        (&[4, 1, 9, 0, 0], accepted(2, 1)),
-        (&[4, 2, 9, 0, 0, 8, 0, 0], accepted(2, 1)), // not limited by the bound
-        (&[4, 2, 9, 0, 0, 8, 0, 1], refusal(12)),
         (&[5], refusal(14)),
         (&[5, 2], refusal(14)), // a count byte is missing, before the other is too large
         (&[6, 255], refusal(14)),
         (&[5, 0, 0], accepted(2, 1)),
         (&[5, 2, 0], refusal(11)),
         (&[6, 0, 2], refusal(11)),
-        (&[5, 1, 1, 9, 0, 0, 9, 0, 0], accepted(2, 1)),
-        (&[5, 1, 1, 9, 0, 1, 9, 0, 0], refusal(12)),
-        (&[6, 1, 1, 9, 0, 0, 9, 0, 1], refusal(12)),
-        (&[6, 1, 1, 9, 0, 1, 9, 0], refusal(14)),
         (&[7], refusal(10)),
         (&[255, 1, 1], refusal(10)),
     ] {
-        tally.expect(
-            &sheet_bytes(1, 2, &[counted(&[0]), counted(body)]),
-            expected,
-        );
+        tally.expect(&sheet(body), expected);
     }
-    tally.expect(&sheet_bytes(1, 1, &[counted(&[0, 0])]), refusal(14)); // entry 0 of kind 0 with a body
-    tally.expect(&sheet_bytes(1, 1, &[counted(&[4, 0])]), refusal(13)); // always true, but not of kind 0
+    // Steps by label 9, with these tests.
+    let one = |test| vec![step(9, test)];
+    for (entry, expected) in [
+        (Entry::Way(one(0)), accepted(2, 1)),
+        (Entry::Way(vec![step(9, 0), step(8, 0)]), accepted(2, 1)), // not limited by the bound
+        (Entry::Way(vec![step(9, 0), step(8, 1)]), refusal(12)),
+        (Entry::Same(one(0), one(0)), accepted(2, 1)),
+        (Entry::Same(one(1), one(0)), refusal(12)),
+        (Entry::Differ(one(0), one(1)), refusal(12)),
+    ] {
+        let body = entry.body(version);
+        tally.expect(&sheet(&body), expected);
+        tally.expect(&sheet(&body[..body.len() - 1]), refusal(14)); // before 12
+        tally.expect(&sheet(&[&body[..], &[0]].concat()), refusal(14));
+    }
+    let alone = |body: &[u8]| sheet_bytes(version, 1, 1, &[counted(body)]);
+    tally.expect(&alone(&[0, 0]), refusal(14)); // entry 0 of kind 0 with a body
+    tally.expect(&alone(&[4, 0]), refusal(13)); // always true, but not of kind 0
 }
 
 /// Accepted sheets: every number of entries up to 300 and some up to the most, at every bound.
-fn sizes(tally: &mut Tally, random: &mut Random) {
+fn sizes(tally: &mut Tally, random: &mut Random, version: u8) {
     let many = [511, 512, 513, 1_000, 4_096, 8_191, 16_384, MOST_ENTRIES];
     for (i, entries) in (1..=300).chain(many).enumerate() {
         for bound in 0..=4 {
             let longest = random
                 .pick(&[0, 1, 4, 5, 8, MOST_STEPS])
                 .min(if entries > 300 { 5 } else { MOST_STEPS });
-            let labels = random.pick(&[1, 3, ANY_LABEL]);
+            let labels = random.pick(&[1, 3, all_labels(version)]);
             let sheet = random_sheet(random, bound, entries, longest, labels);
-            let bytes = sheet.bytes();
+            let bytes = sheet.bytes(version);
             tally.expect(&bytes, accepted(entries as u32, bound as u32));
             damage::some_bytes(tally, random, &bytes, if entries > 300 { 8 } else { 40 });
             if i % 50 == 0 {
@@ -149,23 +179,30 @@ fn sizes(tally: &mut Tally, random: &mut Random) {
             }
         }
     }
-    // The most entries, each the longest that there is but for entry 0: almost 3 MB.
+}
+
+/// The most entries, each the longest that there is but for entry 0: almost 3 MB, or 4.
+fn longest(tally: &mut Tally, random: &mut Random, version: u8) {
+    let label = (all_labels(version) - 1) as u16;
     let longest = |number: usize| match number {
         0 => Entry::True,
-        _ => Entry::Way(vec![step(255, number as u16 - 1); MOST_STEPS]),
+        _ => Entry::Way(vec![step(label, number as u16 - 1); MOST_STEPS]),
     };
     let sheet = Sheet {
         bound: 4,
         entries: (0..MOST_ENTRIES).map(longest).collect(),
     };
-    let bytes = sheet.bytes();
+    let bytes = sheet.bytes(version);
+    // The count byte of entry 1: kind, step count and 60 steps.
+    assert_eq!(bytes[10], if version == 1 { 182 } else { 242 });
     tally.expect(&bytes, accepted(MOST_ENTRIES as u32, 4));
     damage::some_bytes(tally, random, &bytes, 20);
     damage::wrong_length(tally, &bytes);
 }
 
 /// Fields at document 01's limits, and just beyond.
-fn limits(tally: &mut Tally, random: &mut Random) {
+fn limits(tally: &mut Tally, random: &mut Random, version: u8) {
+    let labels = all_labels(version);
     // Entries.
     for q in [
         0, 1, 2, 16_384, 16_385, 16_386, 16_387, 20_000, 32_768, 65_535,
@@ -176,10 +213,9 @@ fn limits(tally: &mut Tally, random: &mut Random) {
             } else {
                 refusal(8)
             };
-            tally.expect(
-                &sheet_bytes(bound as u8, q as u16, &vec![counted(&[0]); q as usize]),
-                expected,
-            );
+            let entries = vec![counted(&[0]); q as usize];
+            let bytes = sheet_bytes(version, bound as u8, q as u16, &entries);
+            tally.expect(&bytes, expected);
         }
     }
     // The bound.
@@ -189,27 +225,24 @@ fn limits(tally: &mut Tally, random: &mut Random) {
         } else {
             refusal(8)
         };
-        tally.expect(
-            &Sheet {
-                bound,
-                entries: vec![Entry::True; 2],
-            }
-            .bytes(),
-            expected,
-        );
+        let sheet = Sheet {
+            bound,
+            entries: vec![Entry::True; 2],
+        };
+        tally.expect(&sheet.bytes(version), expected);
     }
-    // Steps of a way, at every bound.
+    // Steps of a way, as many as a count byte can count, at every bound.
     for bound in 0..=4 {
-        for k in 0..=84 {
+        for k in 0..=253 / step_width(version) {
             let number = random.between(1, 40);
             let mut entries = vec![Entry::True; number];
-            entries.push(Entry::Way(random_steps(random, number, k, ANY_LABEL)));
+            entries.push(Entry::Way(random_steps(random, number, k, labels)));
             let expected = if k <= 60 {
                 accepted(number as u32 + 1, bound as u32)
             } else {
                 refusal(11)
             };
-            tally.expect(&Sheet { bound, entries }.bytes(), expected);
+            tally.expect(&Sheet { bound, entries }.bytes(version), expected);
         }
     }
     // Steps of the two ways of a same and a differ, at every bound.
@@ -217,8 +250,8 @@ fn limits(tally: &mut Tally, random: &mut Random) {
         for j in 0..=9 {
             for k in 0..=9 {
                 let number = random.between(1, 40);
-                let w = random_steps(random, number, j, ANY_LABEL);
-                let v = random_steps(random, number, k, ANY_LABEL);
+                let w = random_steps(random, number, j, labels);
+                let v = random_steps(random, number, k, labels);
                 let fits = j.max(k) <= bound as usize;
                 let expected = if fits {
                     accepted(number as u32 + 1, bound as u32)
@@ -228,20 +261,22 @@ fn limits(tally: &mut Tally, random: &mut Random) {
                 for compared in [Entry::Same(w.clone(), v.clone()), Entry::Differ(w, v)] {
                     let mut entries = vec![Entry::True; number];
                     entries.push(compared);
-                    tally.expect(&Sheet { bound, entries }.bytes(), expected);
+                    tally.expect(&Sheet { bound, entries }.bytes(version), expected);
                 }
             }
         }
     }
     // Many bytes, of a length that needs all of the length field.
-    let mut long = example().bytes();
+    let mut long = example().bytes(version);
     long.resize((1 << 24) + 17, 0);
     set_length(&mut long);
     tally.expect(&long, refusal(9));
 }
 
 /// Every place of a number in every kind, with the latest number that is earlier, and with some that are not.
-fn numbers(tally: &mut Tally, random: &mut Random) {
+fn numbers(tally: &mut Tally, random: &mut Random, version: u8) {
+    // Where the test of step i is, after so many bytes.
+    let of_step = |before: usize| move |i: usize| before + step_width(version) * (i + 1) - 2;
     for number in (1..40).chain([254, 255, 256, 257, 511, 512, 513, 4_096, 16_384]) {
         let entries = vec![Entry::True; number];
         let latest = number as u16 - 1;
@@ -259,15 +294,15 @@ fn numbers(tally: &mut Tally, random: &mut Random) {
                 entries: entries.clone(),
             };
             sheet.entries.push(earlier);
-            let bytes = sheet.bytes();
+            let bytes = sheet.bytes(version);
             tally.expect(&bytes, accepted(number as u32 + 1, 2));
 
             let kind_at = 8 + 2 * number + 1;
-            let places: &[usize] = match kind {
-                1 => &[1],
-                2 | 3 => &[1, 3],
-                4 => &[3, 6, 9],
-                _ => &[4, 7, 10],
+            let places = match kind {
+                1 => vec![1],
+                2 | 3 => vec![1, 3],
+                4 => [0, 1, 2].map(of_step(2)).to_vec(),
+                _ => [0, 1, 2].map(of_step(3)).to_vec(),
             };
             for place in places {
                 for late in [
@@ -290,10 +325,10 @@ fn numbers(tally: &mut Tally, random: &mut Random) {
 }
 
 /// Entry 0, and an entry after it, from a few values a byte: the order of an entry's refusals.
-fn second_entries(tally: &mut Tally) {
+fn second_entries(tally: &mut Tally, version: u8) {
     const VALUES: [u8; 6] = [0, 1, 2, 60, 61, 255];
     for bound in [0, 1, 4] {
-        for count in 0..=7 {
+        for count in 0..=8 {
             for kind in 0..=7 {
                 for bytes in 0..6 * 6 * 6 {
                     let mut rest = vec![
@@ -305,14 +340,19 @@ fn second_entries(tally: &mut Tally) {
                         0,
                         0,
                         0,
+                        0,
                     ];
-                    tally.agree(&sheet_bytes(bound, 1, &[rest.clone()]));
-                    tally.agree(&sheet_bytes(bound, 2, &[counted(&[0]), rest.clone()]));
+                    let alone = |rest: &[u8]| sheet_bytes(version, bound, 1, &[rest.to_vec()]);
+                    let second = |rest: &[u8]| {
+                        sheet_bytes(version, bound, 2, &[counted(&[0]), rest.to_vec()])
+                    };
+                    tally.agree(&alone(&rest));
+                    tally.agree(&second(&rest));
                     rest.resize(1 + count as usize, 0);
-                    tally.agree(&sheet_bytes(bound, 1, &[rest.clone()]));
-                    tally.agree(&sheet_bytes(bound, 2, &[counted(&[0]), rest.clone()]));
+                    tally.agree(&alone(&rest));
+                    tally.agree(&second(&rest));
                     rest.pop();
-                    tally.agree(&sheet_bytes(bound, 2, &[counted(&[0]), rest]));
+                    tally.agree(&second(&rest));
                 }
             }
         }
@@ -320,12 +360,13 @@ fn second_entries(tally: &mut Tally) {
 }
 
 /// Small sheets with each byte changed, cut and lengthened.
-fn small(tally: &mut Tally, random: &mut Random) {
-    damage::each_byte(tally, &example().bytes());
+fn small(tally: &mut Tally, random: &mut Random, version: u8) {
+    damage::each_byte(tally, &example().bytes(version));
     for round in 0..400 {
         let bound = random.between(0, 4) as u8;
         let entries = random.between(1, 7);
-        let bytes = random_sheet(random, bound, entries, 4, 3).bytes();
+        let labels = random.pick(&[3, 3, all_labels(version)]);
+        let bytes = random_sheet(random, bound, entries, 4, labels).bytes(version);
         tally.expect(&bytes, accepted(entries as u32, bound as u32));
         if round % 20 == 0 {
             damage::each_byte(tally, &bytes);
@@ -344,8 +385,8 @@ fn faulty_entries(tally: &mut Tally, random: &mut Random) {
         let most = if round % 100 == 0 { 600 } else { 6 };
         let count = random.between(1, most);
         let longest = random.pick(&[1, 4, 5, MOST_STEPS]);
-        let sheet = random_sheet(random, bound, count, longest, 4);
-        let mut entries: Vec<Vec<u8>> = sheet.entries.iter().map(Entry::bytes).collect();
+        let version = random.pick(&VERSIONS);
+        let mut entries = random_sheet(random, bound, count, longest, 4).entry_bytes(version);
         let mut q = count as u16;
         for _ in 0..random.between(1, 3) {
             let number = random.below(entries.len());
@@ -382,13 +423,13 @@ fn faulty_entries(tally: &mut Tally, random: &mut Random) {
                 // An entry that would be right at a later place.
                 7 => {
                     let later = random.between(number + 1, 2 * number + 2);
-                    *entry = random_entry(random, later, bound, longest, 4).bytes();
+                    *entry = random_entry(random, later, bound, longest, 4).bytes(version);
                 }
                 // The number of entries.
                 _ => q = random.pick(&[q.wrapping_add(1), q.wrapping_sub(1), 0, 16_385, 16_386, q]),
             }
         }
-        tally.agree(&sheet_bytes(bound, q, &entries));
+        tally.agree(&sheet_bytes(version, bound, q, &entries));
     }
 }
 
@@ -396,7 +437,9 @@ fn faulty_entries(tally: &mut Tally, random: &mut Random) {
 fn likely_bytes(tally: &mut Tally, random: &mut Random) {
     for _ in 0..60_000 {
         let q = random.between(1, 5);
-        let mut bytes = vec![0, 0, 0, 0, 1, random.below(5) as u8, 0, q as u8];
+        let version = random.pick(&VERSIONS);
+        let step = step_width(version);
+        let mut bytes = vec![0, 0, 0, 0, version, random.below(5) as u8, 0, q as u8];
         if !random.one_in(10) {
             bytes.extend([1, 0]);
         }
@@ -404,9 +447,9 @@ fn likely_bytes(tally: &mut Tally, random: &mut Random) {
         for _ in 1..q {
             // A count byte that fits the kind, now and then.
             let kind = random.below(7);
-            let count = [1, 3, 5, 5, 5, 6, 9][kind];
+            let count = [1, 3, 5, 5, 2 + step, 3 + step, 3 + 2 * step][kind];
             bytes.push(if random.one_in(4) {
-                random.below(10) as u8
+                random.below(12) as u8
             } else {
                 count as u8
             });

@@ -38,12 +38,25 @@ static void claim_one(const struct list *other, size_t m, size_t sheet_size, siz
     FACT(CUHNAVEL_REFUSAL(answer) == 0 && CUHNAVEL_FIRST(answer) == 1);
 }
 
+/* One of the books is of version 2, and then the sheet is. */
+static bool wide(const struct list *other)
+{
+    return (left.size > 4 && left.start[4] == 2) || (other->size > 4 && other->start[4] == 2);
+}
+
+/* The bytes of room that so many pairs need. */
+static size_t room_needed(const struct list *other, size_t pairs)
+{
+    return 10 + (wide(other) ? 52 : 44) * pairs;
+}
+
 /* What an accepted Compare left. */
 static void compared(const struct list *other, size_t m, size_t bound, uint64_t answer)
 {
     size_t sheet_size = CUHNAVEL_FIRST(answer), count = map.size / 2, zeros = 0;
-    FACT(sheet_size >= 10 && sheet_size <= 10 + 44 * count);
+    FACT(sheet_size >= 10 && sheet_size <= room_needed(other, count));
     FACT(as_lent(&room, sheet_size));
+    FACT(room.start[4] == (wide(other) ? 2 : 1));
     uint64_t of_sheet = check_sheet(room.start, sheet_size);
     FACT(CUHNAVEL_REFUSAL(of_sheet) == 0 && CUHNAVEL_SECOND(of_sheet) == bound);
     const uint16_t *place = (const uint16_t *)map.start;
@@ -66,7 +79,7 @@ void call_compare(void)
     if (CUHNAVEL_REFUSAL(of_left) == 0 && CUHNAVEL_REFUSAL(of_right) == 0)
         bound = quick_bound(bound, other);
     lend_any(&map, 2 * any_length(pairs));
-    lend_any(&room, any_length(10 + 44 * pairs));
+    lend_any(&room, any_length(room_needed(other, pairs)));
     lend_any(&scratch, any_length(16 * pairs));
     uint64_t answer = counted(COMPARE, cuhnavel_compare(left.start, left.size, other->start, other->size, bound,
                                                         (uint16_t *)map.start, map.size / 2, room.start, room.size,
@@ -76,7 +89,7 @@ void call_compare(void)
         refusal_of(of_left, CUHNAVEL_LEFT_BOOK),
         refusal_of(of_right, CUHNAVEL_RIGHT_BOOK),
         call_refused(21, map.size / 2 != pairs),
-        call_refused(22, room.size < 10 + 44 * pairs),
+        call_refused(22, room.size < room_needed(other, pairs)),
         call_refused(23, scratch.size < 16 * pairs),
     };
     if (first_of(refusals, 6) == 0) {

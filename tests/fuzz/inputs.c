@@ -10,10 +10,33 @@ static void set_length(uint8_t *bytes, size_t size)
         bytes[at] = (uint8_t)(size >> (24 - 8 * at));
 }
 
-/* The header of a book or sheet, all but its length. */
+/* The version of a book or sheet, before anything else is put. */
+static void put_version(uint8_t *bytes)
+{
+    bytes[4] = (uint8_t)between(1, 2);
+}
+
+size_t label_width(const uint8_t *bytes)
+{
+    return bytes[4] == 1 ? 1 : 2;
+}
+
+size_t field_width(const uint8_t *bytes)
+{
+    return label_width(bytes) + 2;
+}
+
+/* The header of a book or sheet, all but its version and its length. */
 static void put_header(uint8_t *bytes, size_t byte, size_t count)
 {
-    memcpy(bytes, (uint8_t[]){0, 0, 0, 0, 1, (uint8_t)byte, (uint8_t)(count >> 8), (uint8_t)count}, 8);
+    memcpy(bytes + 5, (uint8_t[]){(uint8_t)byte, (uint8_t)(count >> 8), (uint8_t)count}, 3);
+}
+
+/* A number of so many bytes. */
+static void put_bytes(uint8_t **at, size_t number, size_t width)
+{
+    while (width-- > 0)
+        *(*at)++ = (uint8_t)(number >> 8 * width);
 }
 
 /* A number of cells: mostly small. */
@@ -22,55 +45,62 @@ static size_t any_cells(void)
     return one_in(8) ? between(1, MOST_CELLS) : between(1, 6);
 }
 
+/* How many labels there are in labels of so many bytes. */
+static size_t all_labels(size_t width)
+{
+    return (size_t)1 << 8 * width;
+}
+
 /* An accepted book. */
 static size_t draw_book(uint8_t *bytes)
 {
-    size_t cells = any_cells(), labels = one_in(4) ? 256 : between(1, 3);
-    size_t size = 8 + 4 * cells;
+    put_version(bytes);
+    size_t width = label_width(bytes), high = width == 2 && one_in(3) ? 256 : 1; /* labels that differ in the high byte */
+    size_t cells = any_cells(), labels = one_in(4) ? all_labels(width) / high : between(1, 3);
     size_t kinds = one_in(8) ? UINT32_MAX : between(1, 3);
-    for (size_t cell = 0; cell < cells; cell++) {
-        size_t recording = below(kinds);
-        for (size_t at = 0; at < 4; at++)
-            bytes[8 + 4 * cell + at] = (uint8_t)(recording >> (24 - 8 * at));
-    }
+    uint8_t *at = bytes + 8;
+    for (size_t cell = 0; cell < cells; cell++)
+        put_bytes(&at, below(kinds), 4);
     /* The triples are numbered in their order; each link is some triples above the one before. */
     size_t triples = cells * labels * cells;
     size_t wanted = between(0, one_in(4) ? MOST_LINKS : 2 * cells);
     size_t gap = 2 * triples / (wanted + 1) + 1;
     size_t links = 0;
     for (size_t triple = below(gap); triple < triples && links < wanted; triple += 1 + below(gap)) {
-        bytes[size++] = (uint8_t)(triple / cells / labels);
-        bytes[size++] = (uint8_t)(triple / cells % labels);
-        bytes[size++] = (uint8_t)(triple % cells);
+        put_bytes(&at, triple / cells / labels, 1);
+        put_bytes(&at, triple / cells % labels * high, width);
+        put_bytes(&at, triple % cells, 1);
         links++;
     }
+    size_t size = (size_t)(at - bytes);
     put_header(bytes, cells, links);
     set_length(bytes, size);
     return size;
 }
 
-static void put_number(uint8_t **at, size_t number)
-{
-    *(*at)++ = (uint8_t)(number >> 8);
-    *(*at)++ = (uint8_t)number;
-}
-
 /* The number of an entry before this one. */
 static void put_earlier(uint8_t **at, size_t entry)
 {
-    put_number(at, one_in(3) ? entry - 1 : below(entry));
+    put_bytes(at, one_in(3) ? entry - 1 : below(entry), 2);
 }
 
-static void put_steps(uint8_t **at, size_t entry, size_t count)
+/* A label of so many bytes: mostly one that a book is likely to have. */
+static void put_label(uint8_t **at, size_t width)
+{
+    size_t few = below(3) << (one_in(4) ? 8 * (width - 1) : 0);
+    put_bytes(at, one_in(8) ? below(all_labels(width)) : few, width);
+}
+
+static void put_steps(uint8_t **at, size_t width, size_t entry, size_t count)
 {
     for (size_t step = 0; step < count; step++) {
-        *(*at)++ = (uint8_t)(one_in(8) ? below(256) : below(3));
+        put_label(at, width);
         put_earlier(at, entry);
     }
 }
 
-/* An entry with its count byte, of an accepted sheet. */
-static size_t put_entry(uint8_t *bytes, size_t entry, size_t bound)
+/* An entry with its count byte, of an accepted sheet with labels of so many bytes. */
+static size_t put_entry(uint8_t *bytes, size_t width, size_t entry, size_t bound)
 {
     static const uint8_t numbers[] = {0, 1, 2, 2};
     uint8_t *at = bytes + 1;
@@ -82,12 +112,12 @@ static size_t put_entry(uint8_t *bytes, size_t entry, size_t bound)
     } else if (kind == 4) {
         size_t steps = one_in(10) ? between(0, MOST_STEPS) : between(0, 3);
         *at++ = (uint8_t)steps;
-        put_steps(&at, entry, steps);
+        put_steps(&at, width, entry, steps);
     } else {
         size_t first = between(0, bound), second = between(0, bound);
         *at++ = (uint8_t)first;
         *at++ = (uint8_t)second;
-        put_steps(&at, entry, first + second);
+        put_steps(&at, width, entry, first + second);
     }
     bytes[0] = (uint8_t)(at - bytes - 1);
     return (size_t)(at - bytes);
@@ -96,26 +126,27 @@ static size_t put_entry(uint8_t *bytes, size_t entry, size_t bound)
 /* An accepted sheet. */
 static size_t draw_sheet(uint8_t *bytes)
 {
+    put_version(bytes);
     size_t bound = below(5), entries = one_in(20) ? between(1, 300) : between(1, 12);
     size_t size = 8;
     for (size_t entry = 0; entry < entries; entry++)
-        size += put_entry(bytes + size, entry, bound);
+        size += put_entry(bytes + size, label_width(bytes), entry, bound);
     put_header(bytes, bound, entries);
     set_length(bytes, size);
     return size;
 }
 
 /* An entry that names the one before: a not or, if there are more kinds, an and, an or, or a way of one step. */
-static size_t put_next(uint8_t *bytes, size_t entry, size_t kinds)
+static size_t put_next(uint8_t *bytes, size_t width, size_t entry, size_t kinds)
 {
     uint8_t *at = bytes + 1;
     size_t kind = between(1, kinds);
     *at++ = (uint8_t)kind;
     if (kind == 4) {
         *at++ = 1;
-        *at++ = (uint8_t)below(256);
+        put_bytes(&at, below(all_labels(width)), width);
     }
-    put_number(&at, entry - 1);
+    put_bytes(&at, entry - 1, 2);
     if (kind == 2 || kind == 3)
         put_earlier(&at, entry);
     bytes[0] = (uint8_t)(at - bytes - 1);
@@ -125,10 +156,11 @@ static size_t put_next(uint8_t *bytes, size_t entry, size_t kinds)
 /* An accepted sheet of a chain of many entries. */
 static size_t chain_sheet(uint8_t *bytes)
 {
-    size_t entries = between(1000, 2000), kinds = one_in(2) ? 1 : 4;
-    size_t size = 8 + put_entry(bytes + 8, 0, 0);
+    put_version(bytes);
+    size_t entries = between(1000, 2000), kinds = one_in(2) ? 1 : 4, width = label_width(bytes);
+    size_t size = 8 + put_entry(bytes + 8, width, 0, 0);
     for (size_t entry = 1; entry < entries; entry++)
-        size += put_next(bytes + size, entry, kinds);
+        size += put_next(bytes + size, width, entry, kinds);
     put_header(bytes, below(5), entries);
     set_length(bytes, size);
     return size;
@@ -139,6 +171,7 @@ static size_t most_entries(uint8_t *bytes)
 {
     for (size_t entry = 0; entry < MOST_ENTRIES; entry++)
         memcpy(bytes + 8 + 2 * entry, (uint8_t[]){1, 0}, 2);
+    put_version(bytes);
     put_header(bytes, below(5), MOST_ENTRIES);
     set_length(bytes, 8 + 2 * MOST_ENTRIES);
     return 8 + 2 * MOST_ENTRIES;
@@ -175,7 +208,7 @@ static size_t damage(uint8_t *bytes, size_t size)
         else if (kind == 1)
             size += below(most - size + 1);
         else if (kind == 2 && size >= 6) /* two links or entries alike */
-            memmove(bytes + below(size - 2), bytes + below(size - 2), 3);
+            memmove(bytes + below(size - 3), bytes + below(size - 3), between(3, 4));
         else if (size > 0)
             change_byte(bytes, size);
         if (size > old)
@@ -192,6 +225,7 @@ static size_t any_bytes(uint8_t *bytes, size_t most)
     size_t size = below(one_in(4) ? most + 1 : 80);
     fill(bytes, size);
     if (size >= 8 && one_in(2)) {
+        put_version(bytes);
         put_header(bytes, below(7), below(6));
         set_length(bytes, size);
     }
@@ -220,14 +254,14 @@ size_t any_sheet(uint8_t *bytes)
 
 uint64_t most_ways(const uint8_t *book, size_t bound)
 {
-    size_t cells = book[5], links = (size_t)book[6] << 8 | book[7];
+    size_t cells = book[5], links = (size_t)book[6] << 8 | book[7], width = field_width(book);
     uint64_t all[MOST_CELLS], last[MOST_CELLS], most = 1;
     for (size_t cell = 0; cell < cells; cell++)
         all[cell] = last[cell] = 1;
     for (size_t length = 1; length <= bound; length++) {
         uint64_t next[MOST_CELLS] = {0};
-        for (const uint8_t *link = book + 8 + 4 * cells; link < book + 8 + 4 * cells + 3 * links; link += 3)
-            next[link[0]] += last[link[2]];
+        for (const uint8_t *link = book + 8 + 4 * cells; link < book + 8 + 4 * cells + width * links; link += width)
+            next[link[0]] += last[link[width - 1]];
         for (size_t cell = 0; cell < cells; cell++) {
             last[cell] = next[cell];
             all[cell] += next[cell];

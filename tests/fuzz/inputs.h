@@ -1,4 +1,4 @@
-/* Books and sheets to be lent: accepted ones, such with faults, and any bytes. */
+/* Books and sheets of both versions to be lent: accepted ones, such with faults, and any bytes. */
 #ifndef INPUTS_H
 #define INPUTS_H
 
@@ -10,10 +10,14 @@ enum {
     MOST_LINKS = 512,
     MOST_ENTRIES = 16385,
     MOST_STEPS = 60,
-    LONGEST_BOOK = 8 + 4 * MOST_CELLS + 3 * MOST_LINKS,
-    LONGEST_SHEET = 65536, /* of those drawn here */
+    LONGEST_BOOK = 8 + 4 * MOST_CELLS + 4 * MOST_LINKS,
+    LONGEST_SHEET = 81920, /* of those drawn here */
     MOST_ADDED = 64,       /* bytes that faults add, at most */
 };
+
+/* The bytes of a label in a book or sheet, and those of a link or a step. */
+size_t label_width(const uint8_t *bytes);
+size_t field_width(const uint8_t *bytes);
 
 /* Writes a book to `bytes`, which have room for LONGEST_BOOK + MOST_ADDED, and gives its length. */
 size_t any_book(uint8_t *bytes);

@@ -12,7 +12,7 @@ struct list left = {.name = "left book", .most = LONGEST_BOOK + MOST_ADDED};
 struct list right = {.name = "right book", .most = LONGEST_BOOK + MOST_ADDED};
 struct list sheet = {.name = "sheet", .most = LONGEST_SHEET + MOST_ADDED};
 struct list map = {.name = "map", .most = 2 * (MOST_PAIRS + MOST_MORE)};
-struct list room = {.name = "room", .most = 10 + 44 * MOST_PAIRS + MOST_MORE};
+struct list room = {.name = "room", .most = 10 + 52 * MOST_PAIRS + MOST_MORE};
 struct list scratch = {.name = "scratch", .most = 16 * MOST_PAIRS + MOST_MORE};
 struct list words = {.name = "words", .most = 8 * (MOST_ENTRIES + MOST_MORE)};
 struct list other_words = {.name = "other words", .most = 8 * (MOST_ENTRIES + MOST_MORE)};
@@ -50,7 +50,8 @@ uint64_t check_book(const struct list *book)
     if (CUHNAVEL_REFUSAL(answer) == 0) {
         size_t cells = CUHNAVEL_FIRST(answer), links = CUHNAVEL_SECOND(answer);
         FACT(cells >= 1 && cells <= MOST_CELLS && links <= MOST_LINKS);
-        FACT(book->size == 8 + 4 * cells + 3 * links);
+        FACT(book->start[4] == 1 || book->start[4] == 2);
+        FACT(book->size == 8 + 4 * cells + field_width(book->start) * links);
     }
     return answer;
 }
@@ -61,6 +62,7 @@ uint64_t check_sheet(const uint8_t *bytes, size_t size)
     if (CUHNAVEL_REFUSAL(answer) == 0) {
         size_t entries = CUHNAVEL_FIRST(answer);
         FACT(entries >= 1 && entries <= MOST_ENTRIES && CUHNAVEL_SECOND(answer) <= 4);
+        FACT(bytes[4] == 1 || bytes[4] == 2);
         FACT(size >= 8 + 2 * entries);
     }
     return answer;

@@ -2,6 +2,7 @@
 #include "calls.h"
 #include "cuhnavel.h"
 #include "facts.h"
+#include "inputs.h"
 #include "lists.h"
 #include "random.h"
 #include "tally.h"
@@ -79,7 +80,7 @@ void call_links(void)
         call_refused(26, cell >= cells),
     };
     uint64_t expected = first_of(refusals, 2), start = 0, links = 0;
-    for (size_t at = 8 + 4 * cells; expected == 0 && at < left.size; at += 3)
+    for (size_t at = 8 + 4 * cells; expected == 0 && at < left.size; at += field_width(left.start))
         if (left.start[at] == cell) {
             start = links == 0 ? at : start;
             links++;

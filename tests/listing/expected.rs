@@ -8,22 +8,23 @@ use crate::support::partners::rounds;
 pub const MOST_BYTES: usize = 8_192;
 pub const MOST_CELLS: usize = 32;
 
-pub enum Answer {
+pub enum Answer<'a> {
     TooManyBytes,
     Refused(Outcome),
     TooManyCells,
-    Listing(Listing),
+    Listing(Listing<'a>),
 }
 
-pub struct Listing {
+/// Of two accepted books.
+pub struct Listing<'a> {
     pub bound: usize,
-    left: Book,
-    right: Book,
+    pub left: &'a [u8],
+    pub right: &'a [u8],
 }
 
 /// "The first of these that applies is written as the only line: 'too large' over 8,192 bytes of input; 'refused 20'; a book's
 /// refusal, as 'refused left 3' or 'refused right 3'; 'too large' if a book has over 32 cells. Empty input is refused 20."
-pub fn answer(input: &[u8]) -> Answer {
+pub fn answer(input: &[u8]) -> Answer<'_> {
     if input.len() > MOST_BYTES {
         return Answer::TooManyBytes;
     }
@@ -37,8 +38,10 @@ pub fn answer(input: &[u8]) -> Answer {
             return Answer::Refused(check);
         }
     }
-    let (left, right) = (Book::of_bytes(left), Book::of_bytes(right));
-    if left.cells() > MOST_CELLS || right.cells() > MOST_CELLS {
+    if [left, right]
+        .iter()
+        .any(|book| book[5] as usize > MOST_CELLS)
+    {
         return Answer::TooManyCells;
     }
     Answer::Listing(Listing {
@@ -58,7 +61,7 @@ fn split(books: &[u8]) -> (&[u8], &[u8]) {
     books.split_at_checked(length).unwrap_or((books, &[]))
 }
 
-impl Answer {
+impl Answer<'_> {
     /// The lines. "Every line ends in a line feed."
     pub fn text(&self) -> String {
         match self {
@@ -76,11 +79,12 @@ impl Answer {
     }
 }
 
-impl Listing {
+impl Listing<'_> {
     /// "Sizes and bound; each left cell with its count and word; totals."
     fn text(&self) -> String {
-        let (n, m) = (self.left.cells(), self.right.cells());
-        let dropped = rounds(&self.left, &self.right, self.bound);
+        let (left, right) = (Book::of_bytes(self.left), Book::of_bytes(self.right));
+        let (n, m) = (left.cells(), right.cells());
+        let dropped = rounds(&left, &right, self.bound);
         let mut text = format!("books {n} {m} bound {}\n", self.bound);
         for (i, row) in dropped.chunks(m).enumerate() {
             let partners = || (0..m).filter(|&j| row[j].is_none());

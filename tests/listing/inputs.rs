@@ -9,6 +9,7 @@ use crate::support::partners::most_ways;
 use crate::support::random::Random;
 use crate::support::remade::{renumbered, split};
 use crate::support::shapes::{draw, SHAPES};
+use crate::support::versions::MIXES;
 use crate::tally::Tally;
 
 /// How many pairs of books of each shape at each bound.
@@ -28,13 +29,15 @@ pub fn input(bound: u8, left: &[u8], right: &[u8]) -> Vec<u8> {
     [&[bound], left, right].concat()
 }
 
-fn of_books(bound: usize, left: &Book, right: &Book) -> Vec<u8> {
-    input(bound as u8, &left.bytes(), &right.bytes())
+/// The byte c and two books of any versions.
+fn of_books(random: &mut Random, bound: usize, left: &Book, right: &Book) -> Vec<u8> {
+    let (left, right) = (left.any_bytes(random), right.any_bytes(random));
+    input(bound as u8, &left, &right)
 }
 
 /// Document 01, P1's input.
 pub fn example() -> Vec<u8> {
-    of_books(1, &example_a_left(), &example_a_right())
+    input(1, &example_a_left().bytes(1), &example_a_right().bytes(1))
 }
 
 /// The listing of these words, a row each, for a right book of m cells.
@@ -50,7 +53,7 @@ fn listing(bound: usize, m: usize, words: &[u64]) -> String {
     text + &format!("matched {matched} parted {parted}\n")
 }
 
-/// Document 01, P1 to P8, with all pairs of cells, and the widest row.
+/// Document 01, P1 to P8, with all pairs of cells, and the widest row: in every mix of versions.
 fn examples(tally: &mut Tally) {
     let (a, b) = (example_a_left(), example_a_right());
     let three = |last| chain(vec![5, 6, last], |_| 1);
@@ -61,7 +64,10 @@ fn examples(tally: &mut Tally) {
     let looping = ring(vec![5]);
     let mut expect = |bound, left: &Book, right: &Book, words: &[u64]| {
         let text = listing(bound, right.cells(), words);
-        tally.expect(&of_books(bound, left, right), &text);
+        for [one, other] in MIXES {
+            let input = input(bound as u8, &left.bytes(one), &right.bytes(other));
+            tally.expect(&input, &text);
+        }
     };
     expect(1, &a, &b, &[0, 2, 2]);
     expect(0, &a, &b, &[1, 2, 2]);
@@ -93,7 +99,7 @@ fn by_shape(tally: &mut Tally, random: &mut Random) {
         for bound in 0..=4 {
             for _ in 0..DRAWN {
                 let (left, right) = draw(random, shape, bound);
-                tally.agree(&of_books(bound, &left, &right));
+                tally.agree(&of_books(random, bound, &left, &right));
             }
         }
     }
@@ -118,8 +124,8 @@ fn sizes(tally: &mut Tally, random: &mut Random) {
             let bound = (cells + turn) % 5;
             let one = sparse(random, cells, bound);
             let other = sparse(random, others, bound);
-            tally.agree(&of_books(bound, &one, &other));
-            tally.agree(&of_books(bound, &other, &one));
+            tally.agree(&of_books(random, bound, &one, &other));
+            tally.agree(&of_books(random, bound, &other, &one));
         }
     }
 }
@@ -131,19 +137,25 @@ fn large(tally: &mut Tally, random: &mut Random) {
     looping.links = (0..MOST_CELLS as u8).map(|x| link(x, 255, x)).collect();
     let long = chain((0..MOST_CELLS as u32).collect(), |_| 1);
     let half = random_book(random, MOST_CELLS / 2, 20, 3, 4);
+    // The most links.
+    let full = random_book(random, MOST_CELLS, 512, 65_536, 4);
+    for bound in 0..=1 {
+        let other = renumbered(random, &full);
+        tally.agree(&of_books(random, bound, &full, &other));
+    }
     for bound in 0..=4 {
         let none = listing(bound, MOST_CELLS, &[0; MOST_CELLS]);
-        tally.expect(&of_books(bound, &bare, &looping), &none);
+        tally.expect(&of_books(random, bound, &bare, &looping), &none);
         let every = listing(bound, MOST_CELLS, &[0xffff_ffff; MOST_CELLS]);
-        tally.expect(&of_books(bound, &bare, &bare), &every);
+        tally.expect(&of_books(random, bound, &bare, &bare), &every);
         let own: Vec<u64> = (0..MOST_CELLS).map(|i| 1 << i).collect();
         let own = listing(bound, MOST_CELLS, &own);
-        tally.expect(&of_books(bound, &long, &long), &own);
+        tally.expect(&of_books(random, bound, &long, &long), &own);
         let other = renumbered(random, &long);
-        tally.agree(&of_books(bound, &long, &other));
+        tally.agree(&of_books(random, bound, &long, &other));
         let other = split(random, &half, MOST_CELLS / 2, 3);
         if most_ways(&half, bound).max(most_ways(&other, bound)) <= 60 {
-            tally.agree(&of_books(bound, &half, &other));
+            tally.agree(&of_books(random, bound, &half, &other));
         }
     }
 }

@@ -3,7 +3,7 @@
 use crate::expected::{MOST_BYTES, MOST_CELLS};
 use crate::inputs::{example, input};
 use crate::program::Feed;
-use crate::support::books::{example_a_left, example_a_right, random_book, Book};
+use crate::support::books::{book, example_a_left, example_a_right, random_book};
 use crate::support::counts::OF_BOOK;
 use crate::support::random::Random;
 use crate::support::refusals::{book_refused, change_byte};
@@ -23,10 +23,8 @@ pub fn all(tally: &mut Tally) {
     any_bytes(tally, random);
 }
 
-fn bare(cells: usize) -> Vec<u8> {
-    let recordings = vec![0; cells];
-    let links = vec![];
-    Book { recordings, links }.bytes()
+fn bare(cells: usize, version: u8) -> Vec<u8> {
+    book(&vec![0; cells], &[]).bytes(version)
 }
 
 /// Lines found by hand.
@@ -40,9 +38,11 @@ fn by_hand(tally: &mut Tally) {
     expect(&example[..26], "refused left 2");
     expect(&example[..27], "refused right 1");
     expect(&example[..45], "refused right 2");
-    expect(&changed(&example, &[(5, 2)]), "refused left 3");
-    expect(&changed(&example, &[(31, 2)]), "refused right 3");
-    expect(&changed(&example, &[(5, 2), (31, 2)]), "refused left 3");
+    expect(&changed(&example, &[(5, 3)]), "refused left 3");
+    expect(&changed(&example, &[(31, 3)]), "refused right 3");
+    expect(&changed(&example, &[(5, 0), (31, 255)]), "refused left 3");
+    expect(&changed(&example, &[(5, 2)]), "refused left 5"); // of a length of version 1
+    expect(&changed(&example, &[(31, 2)]), "refused right 5");
     expect(&changed(&example, &[(4, 7)]), "refused left 1"); // the length field
     expect(&[&example[..], &[0]].concat(), "refused right 2");
     expect(&[255; MOST_BYTES], "refused 20");
@@ -50,7 +50,7 @@ fn by_hand(tally: &mut Tally) {
     expect(&[255; 100_000], "too large");
     expect(&[0; MOST_BYTES], "refused left 1");
     expect(&[0; MOST_BYTES + 1], "too large");
-    let (most, more) = (bare(MOST_CELLS), bare(MOST_CELLS + 1));
+    let (most, more) = (bare(MOST_CELLS, 2), bare(MOST_CELLS + 1, 1));
     expect(&input(1, &more, &most), "too large");
     expect(&input(1, &most, &more), "too large");
     expect(&input(1, &more, &most[..7]), "refused right 1");
@@ -127,7 +127,7 @@ fn damaged(tally: &mut Tally, random: &mut Random) {
 
 /// Length fields of the left book that say more or fewer bytes than it has, or than there are.
 fn left_lengths(tally: &mut Tally) {
-    let (left, right) = (example_a_left().bytes(), example_a_right().bytes());
+    let (left, right) = (example_a_left().bytes(2), example_a_right().bytes(1));
     let rest = (left.len() + right.len()) as u32;
     for length in (0..rest + 4).chain([255, 256, 1 << 16, 1 << 24, 1 << 31, u32::MAX]) {
         let mut left = left.clone();
@@ -148,10 +148,10 @@ fn left_lengths(tally: &mut Tally) {
 fn too_many_cells(tally: &mut Tally, random: &mut Random) {
     for cells in MOST_CELLS + 1..=64 {
         let links = random.between(0, 2 * cells);
-        let wide = random_book(random, cells, links, 2, 4).bytes();
+        let wide = random_book(random, cells, links, 2, 4).any_bytes(random);
         let bound = random.below(5) as u8;
         for others in [1, 2, 31, 32, 33, 64] {
-            let other = random_book(random, others, 0, 1, 3).bytes();
+            let other = random_book(random, others, 0, 1, 3).any_bytes(random);
             tally.agree(&input(bound, &wide, &other));
             tally.agree(&input(bound, &other, &wide));
         }
@@ -165,7 +165,7 @@ fn too_many_cells(tally: &mut Tally, random: &mut Random) {
 
 /// Inputs of 8,192 bytes, of fewer and of more: by length fields that say so, and of a right book that goes on.
 fn too_many_bytes(tally: &mut Tally, random: &mut Random) {
-    let left = example_a_left().bytes();
+    let left = example_a_left().bytes(2);
     let lengths = [
         8_189, 8_190, 8_191, 8_192, 8_193, 8_194, 8_195, 8_196, 8_200, 9_000,
     ];
@@ -178,7 +178,7 @@ fn too_many_bytes(tally: &mut Tally, random: &mut Random) {
             set_length(&mut whole);
             tally.agree(&input(bound, &whole, &[]));
             // The right book goes on, and says so or not.
-            let mut right = example_a_right().bytes();
+            let mut right = example_a_right().bytes(1);
             right.resize(length - 1 - left.len(), 0);
             tally.agree(&input(bound, &left, &right));
             set_length(&mut right);

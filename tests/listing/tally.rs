@@ -3,7 +3,7 @@
 use crate::expected::{answer, Answer};
 use crate::program::{run, Feed};
 use crate::support::call::Call;
-use crate::support::counts::{Counts, OF_BOOK};
+use crate::support::counts::{Counts, Versions, OF_BOOK};
 use crate::support::outcome::{accepted, CALL, LEFT_BOOK, RIGHT_BOOK};
 use crate::support::random::Random;
 
@@ -19,6 +19,8 @@ const TOO_MANY_CELLS: &str = "too large, cells";
 
 pub struct Tally {
     counts: Counts,
+    /// Of the left book and the right one, where they are listed.
+    versions: Versions,
     random: Random,
     /// How many inputs came by a pipe at once, in pieces, and from a file.
     fed: [usize; 3],
@@ -28,6 +30,7 @@ impl Tally {
     pub fn new() -> Tally {
         Tally {
             counts: Counts::new("listing"),
+            versions: Versions::default(),
             random: Random::new(8),
             fed: [0; 3],
         }
@@ -75,7 +78,10 @@ impl Tally {
             Answer::TooManyBytes => self.counts.count(accepted(0, 0), TOO_MANY_BYTES),
             Answer::Refused(outcome) => self.counts.count(outcome, ""),
             Answer::TooManyCells => self.counts.count(accepted(0, 0), TOO_MANY_CELLS),
-            Answer::Listing(listing) => self.counts.count(accepted(0, 0), LISTED[listing.bound]),
+            Answer::Listing(listing) => {
+                self.counts.count(accepted(0, 0), LISTED[listing.bound]);
+                self.versions.count(&[listing.left, listing.right]);
+            }
         }
         self.fed[match feed {
             Feed::Pipe => 0,
@@ -90,6 +96,7 @@ impl Tally {
             &[&LISTED[..], &[TOO_MANY_BYTES, TOO_MANY_CELLS]].concat(),
             &[(CALL, &[20]), (LEFT_BOOK, &OF_BOOK), (RIGHT_BOOK, &OF_BOOK)],
         );
+        self.versions.report("listing");
         let [pipe, pieces, file] = self.fed;
         println!("  by a pipe at once {pipe}, in pieces {pieces}, from a file {file}");
         runs

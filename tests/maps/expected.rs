@@ -4,6 +4,7 @@ use crate::support::books::{link, Book};
 use crate::support::checks::{check_book, check_sheet};
 use crate::support::outcome::{accepted, refused, Outcome, CALL, LEFT_BOOK};
 use crate::support::sheets::entry_starts;
+use crate::support::versions::{label_bytes, link_width};
 
 /// "27: m is 0 or above 64. 26: the row is not wholly in the map. It gives a word with bit j set where the place holds 0, and
 /// how many bits are set." The answer holds the count; the word is 0 on a refusal.
@@ -54,18 +55,27 @@ pub fn links(book: &[u8], cell: usize) -> (Outcome, Vec<u8>) {
     if cell >= check.first as usize {
         return (refused(CALL, 26), vec![]);
     }
+    let version = book[4];
     let Book { recordings, links } = Book::of_bytes(book);
     let part: Vec<u8> = links
         .iter()
         .filter(|link| link.from as usize == cell)
-        .flat_map(|link| [link.from, link.label, link.to])
+        .flat_map(|link| {
+            [
+                &[link.from],
+                &label_bytes(version, link.label)[..],
+                &[link.to],
+            ]
+            .concat()
+        })
         .collect();
     // Links rise, so the first from this cell stands after those from lower cells.
     let before = links.partition_point(|&earlier| earlier < link(cell as u8, 0, 0));
     let start = if part.is_empty() {
         0
     } else {
-        8 + 4 * recordings.len() + 3 * before
+        8 + 4 * recordings.len() + link_width(version) * before
     };
-    (accepted(part.len() as u32 / 3, start as u32), part)
+    let count = part.len() / link_width(version);
+    (accepted(count as u32, start as u32), part)
 }

@@ -1,11 +1,13 @@
 //! Maps, sheets and books, accepted and refused.
 
-use crate::support::books::{example_a_left, link, most_links, random_book, Book};
+use crate::support::books::{book, example_a_left, link, most_links, random_book};
 use crate::support::counts::{OF_BOOK, OF_SHEET};
 use crate::support::outcome::{accepted, refused, CALL, SHEET};
 use crate::support::random::Random;
 use crate::support::refusals::{book_refused, sheet_refused};
+use crate::support::remade::any_labels;
 use crate::support::sheets::{random_sheet, step, Entry, Sheet};
+use crate::support::versions::{all_labels, VERSIONS};
 use crate::tally::Tally;
 
 const MOST_ENTRIES: usize = 16_385;
@@ -112,8 +114,15 @@ fn rows_beyond(tally: &mut Tally, random: &mut Random) {
     }
 }
 
-/// Document 01's question for example A at bound 1, and refusals found by hand.
+/// Document 01's question for example A at bound 1, and refusals found by hand. A step is one byte longer in version 2.
 fn pairs_by_hand(tally: &mut Tally) {
+    for (version, second) in [(1, 17), (2, 18)] {
+        pairs_of_version(tally, version, second);
+    }
+}
+
+/// Entry 2 of this version starts at this byte.
+fn pairs_of_version(tally: &mut Tally, version: u8, second: u32) {
     let sheet = Sheet {
         bound: 1,
         entries: vec![
@@ -122,10 +131,10 @@ fn pairs_by_hand(tally: &mut Tally) {
             Entry::Not(1),
         ],
     }
-    .bytes();
+    .bytes(version);
     let map = [1, 2, 0, 3, 65_535];
     tally.expect_pair(&map, 0, &sheet, accepted(1, 10));
-    tally.expect_pair(&map, 1, &sheet, accepted(2, 17));
+    tally.expect_pair(&map, 1, &sheet, accepted(2, second));
     tally.expect_pair(&map, 2, &sheet, accepted(0, 0));
     tally.expect_pair(&map, 3, &sheet, refused(CALL, 25));
     tally.expect_pair(&map, 4, &sheet, refused(CALL, 25));
@@ -143,7 +152,8 @@ fn pairs(tally: &mut Tally, random: &mut Random) {
         let bound = random.between(0, 4) as u8;
         let q = random.pick(&[1, 2, 3, 10, 40, 255, 256, 257]);
         let longest = random.pick(&[1, 4, 60]);
-        let sheet = random_sheet(random, bound, q, longest, 256).bytes();
+        let labels = random.pick(&VERSIONS.map(all_labels));
+        let sheet = random_sheet(random, bound, q, longest, labels).any_bytes(random);
         let length = random.between(0, 12);
         let map: Vec<u16> = (0..length)
             .map(|_| {
@@ -189,34 +199,42 @@ fn pairs_of_most_entries(tally: &mut Tally, random: &mut Random) {
     let sheet = Sheet {
         bound: 4,
         entries: (0..MOST_ENTRIES).map(longest).collect(),
-    }
-    .bytes();
+    };
     let mut map = vec![
         0, 1, 2, 255, 256, 257, 16_383, 16_384, 16_385, 16_386, 32_768, 65_535,
     ];
     map.extend((0..12).map(|_| random.below(MOST_ENTRIES) as u16));
-    for place in 0..=map.len() {
-        tally.pair(&map, place, &sheet);
+    for sheet in VERSIONS.map(|version| sheet.bytes(version)) {
+        for place in 0..=map.len() {
+            tally.pair(&map, place, &sheet);
+        }
     }
 }
 
 /// Document 01, example A, and a cell between two that have links.
 fn links_by_hand(tally: &mut Tally) {
-    let book = example_a_left().bytes();
-    tally.expect_links(&book, 0, accepted(2, 20), &[0, 1, 1, 0, 1, 2]);
-    tally.expect_links(&book, 1, accepted(0, 0), &[]);
-    tally.expect_links(&book, 2, accepted(0, 0), &[]);
-    tally.expect_links(&book, 3, refused(CALL, 26), &[]);
-    tally.expect_links(&book, usize::MAX, refused(CALL, 26), &[]);
-    tally.expect_links(&book, 256, refused(CALL, 26), &[]);
-    let book = Book {
-        recordings: vec![5, 5, 5],
-        links: vec![link(0, 255, 2), link(2, 0, 0), link(2, 0, 2), link(2, 9, 1)],
+    for (version, of_first) in [(1, &[0, 1, 1, 0, 1, 2][..]), (2, &[0, 0, 1, 1, 0, 0, 1, 2])] {
+        let book = example_a_left().bytes(version);
+        tally.expect_links(&book, 0, accepted(2, 20), of_first);
+        tally.expect_links(&book, 1, accepted(0, 0), &[]);
+        tally.expect_links(&book, 2, accepted(0, 0), &[]);
+        tally.expect_links(&book, 3, refused(CALL, 26), &[]);
+        tally.expect_links(&book, usize::MAX, refused(CALL, 26), &[]);
+        tally.expect_links(&book, 256, refused(CALL, 26), &[]);
     }
-    .bytes();
-    tally.expect_links(&book, 0, accepted(1, 20), &[0, 255, 2]);
-    tally.expect_links(&book, 1, accepted(0, 0), &[]);
-    tally.expect_links(&book, 2, accepted(3, 23), &[2, 0, 0, 2, 0, 2, 2, 9, 1]);
+    let apart = |[x, y, z]: [u16; 3]| {
+        let links = [link(0, x, 2), link(2, y, 0), link(2, y, 2), link(2, z, 1)];
+        book(&[5, 5, 5], &links)
+    };
+    let narrow = apart([255, 0, 9]).bytes(1);
+    tally.expect_links(&narrow, 0, accepted(1, 20), &[0, 255, 2]);
+    tally.expect_links(&narrow, 1, accepted(0, 0), &[]);
+    tally.expect_links(&narrow, 2, accepted(3, 23), &[2, 0, 0, 2, 0, 2, 2, 9, 1]);
+    let wide = apart([65_535, 2, 513]).bytes(2);
+    tally.expect_links(&wide, 0, accepted(1, 20), &[0, 255, 255, 2]);
+    tally.expect_links(&wide, 1, accepted(0, 0), &[]);
+    let of_last = [2, 0, 2, 0, 2, 0, 2, 2, 2, 2, 1, 1];
+    tally.expect_links(&wide, 2, accepted(3, 24), &of_last);
 }
 
 /// Every cell of books of every number of cells, few links and many, and cells outside.
@@ -234,7 +252,8 @@ fn links(tally: &mut Tally, random: &mut Random) {
                 book.links
                     .retain(|link| link.from <= most && link.from & odd == 0);
             }
-            let bytes = book.bytes();
+            let [book] = any_labels(random, [book]);
+            let bytes = book.any_bytes(random);
             for cell in 0..cells + 2 {
                 tally.links(&bytes, cell);
             }
@@ -247,14 +266,12 @@ fn links(tally: &mut Tally, random: &mut Random) {
     }
     // All links from one cell: the most that there can be.
     for cell in [0, 1, 62, 63] {
-        let links = (0..512).map(|i| link(cell, (i / 64) as u8, (i % 64) as u8));
-        let book = Book {
-            recordings: vec![5; 64],
-            links: links.collect(),
-        }
-        .bytes();
-        for cell in 0..=64 {
-            tally.links(&book, cell);
+        let links: Vec<_> = (0..512).map(|i| link(cell, i / 64, i as u8 % 64)).collect();
+        for version in VERSIONS {
+            let book = book(&[5; 64], &links).bytes(version);
+            for cell in 0..=64 {
+                tally.links(&book, cell);
+            }
         }
     }
 }

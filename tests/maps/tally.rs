@@ -2,15 +2,18 @@
 
 use crate::expected;
 use crate::support::call::Call;
-use crate::support::counts::{Counts, OF_BOOK, OF_SHEET};
+use crate::support::counts::{Counts, Versions, OF_BOOK, OF_SHEET};
 use crate::support::lent::Lent;
 use crate::support::library;
 use crate::support::outcome::{Outcome, CALL, LEFT_BOOK, SHEET};
+use crate::support::versions::link_width;
 
 pub struct Tally {
     row: Counts,
     pair: Counts,
     links: Counts,
+    pair_versions: Versions,
+    links_versions: Versions,
     turn: usize,
 }
 
@@ -20,6 +23,8 @@ impl Tally {
             row: Counts::new("row"),
             pair: Counts::new("pair"),
             links: Counts::new("links"),
+            pair_versions: Versions::default(),
+            links_versions: Versions::default(),
             turn: 0,
         }
     }
@@ -75,6 +80,9 @@ impl Tally {
             _ => "parted",
         };
         self.pair.count(answer, name);
+        if answer.refusal == 0 {
+            self.pair_versions.count(&[sheet]);
+        }
         self.turn += 1;
     }
 
@@ -94,8 +102,9 @@ impl Tally {
             inputs: &[("book", book)],
         };
         call.compare(answer, expected);
-        let start = answer.second as usize;
-        if lent.values().get(start..start + 3 * answer.first as usize) != Some(links) {
+        let (count, start) = (answer.first as usize, answer.second as usize);
+        let width = book.get(4).map_or(0, |&version| link_width(version));
+        if lent.values().get(start..start + width * count) != Some(links) {
             call.fail("the part is not that of the cell's links");
         }
         call.unchanged(&lent, book);
@@ -104,6 +113,9 @@ impl Tally {
             _ => "links",
         };
         self.links.count(answer, name);
+        if answer.refusal == 0 {
+            self.links_versions.count(&[book]);
+        }
         self.turn += 1;
     }
 
@@ -117,6 +129,8 @@ impl Tally {
 
     /// Prints the counts, and gives the number of cases.
     pub fn report(&self) -> usize {
+        self.pair_versions.report("pair");
+        self.links_versions.report("links");
         self.row.report(&["counted"], &[(CALL, &[26, 27])])
             + self.pair.report(
                 &["matched", "parted"],

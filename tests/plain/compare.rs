@@ -4,6 +4,7 @@
 
 use crate::support::checks::check_book;
 use crate::support::outcome::{accepted, refused, Outcome, CALL, LEFT_BOOK, RIGHT_BOOK};
+use crate::support::versions::{label_of, label_width, link_width, step_width, written_version};
 use std::sync::atomic::{AtomicUsize, Ordering};
 
 /// The kinds of an entry.
@@ -21,13 +22,14 @@ struct Graph {
     cells: usize,
     /// The links out of cell x are those from `starts[x]` up to `starts[x + 1]`.
     starts: [u16; 65],
-    labels: [u8; 512],
+    labels: [u16; 512],
     to: [u8; 512],
     /// For each cell the cells of the same recording, and those of another.
     ends: [[u64; 64]; 2],
 }
 
 fn read(book: &[u8]) -> Graph {
+    let width = link_width(book[4]);
     let cells = book[5] as usize;
     let (recordings, links) = book[8..].split_at(4 * cells);
     let recordings: Vec<&[u8]> = recordings.chunks(4).collect();
@@ -44,9 +46,9 @@ fn read(book: &[u8]) -> Graph {
             graph.ends[t][x] |= 1 << y;
         }
     }
-    for (k, link) in links.chunks(3).enumerate() {
-        graph.labels[k] = link[1];
-        graph.to[k] = link[2] & 63; // below 64, so that no index is tested
+    for (k, link) in links.chunks(width).enumerate() {
+        graph.labels[k] = label_of(&link[1..width - 1]);
+        graph.to[k] = link[width - 1] & 63; // below 64, so that no index is tested
         graph.starts[link[0] as usize + 1] += 1;
     }
     for x in 0..64 {
@@ -57,7 +59,7 @@ fn read(book: &[u8]) -> Graph {
 
 impl Graph {
     /// The cells that a link with the label leads to from cell x.
-    fn targets(&self, x: usize, label: u8) -> u64 {
+    fn targets(&self, x: usize, label: u16) -> u64 {
         let links = self.starts[x] as usize..self.starts[x + 1] as usize;
         let mut out = 0;
         for (&of_link, &to) in self.labels[links.clone()].iter().zip(&self.to[links]) {
@@ -69,7 +71,7 @@ impl Graph {
     }
 
     /// The cells that a link with the label leads to from a cell of the word.
-    fn image(&self, mut word: u64, label: u8) -> u64 {
+    fn image(&self, mut word: u64, label: u16) -> u64 {
         let mut out = 0;
         while word != 0 {
             out |= self.targets(word.trailing_zeros() as usize, label);
@@ -79,7 +81,7 @@ impl Graph {
     }
 
     /// Writes for each cell of the word where the label leads to from it.
-    fn put_rows(&self, mut word: u64, label: u8, rows: &mut [u64; 64]) {
+    fn put_rows(&self, mut word: u64, label: u16, rows: &mut [u64; 64]) {
         while word != 0 {
             let x = word.trailing_zeros() as usize;
             rows[x] = self.targets(x, label);
@@ -88,7 +90,7 @@ impl Graph {
     }
 
     /// The labels of the links, each once, and how many they are.
-    fn labels_of(&self) -> ([u8; 512], usize) {
+    fn labels_of(&self) -> ([u16; 512], usize) {
         let (mut list, mut count) = ([0; 512], 0);
         for label in &self.labels[..self.starts[64] as usize] {
             if !list[..count].iter().any(|known| known == label) {
@@ -347,7 +349,7 @@ impl<const PLACES: usize> Search<'_, PLACES> {
 
     /// Puts the tips one link beyond those of the table, from the place `at` on, into `part`, until it is full. Gives the place where
     /// to go on: that of label number i and class e is `ROOM` × i + e.
-    fn fill(&self, labels: &[u8], table: &Table, at: usize, part: &mut Table) -> usize {
+    fn fill(&self, labels: &[u16], table: &Table, at: usize, part: &mut Table) -> usize {
         let here = union(&table.lefts[..table.count]);
         let there = union(&table.rights[..table.count]);
         let (mut rows, mut other_rows) = ([0; 64], [0; 64]);
@@ -365,7 +367,7 @@ impl<const PLACES: usize> Search<'_, PLACES> {
 
     /// Makes `part` the tips one link beyond those of the table, from the place `at` on, until it is full. Gives the place where to
     /// go on.
-    fn next_part(&self, labels: &[u8], table: &Table, at: usize, part: &mut Table) -> usize {
+    fn next_part(&self, labels: &[u16], table: &Table, at: usize, part: &mut Table) -> usize {
         part.count = 0;
         let next = self.fill(labels, table, at, part);
         if next < ROOM * labels.len() {
@@ -408,7 +410,7 @@ impl<const PLACES: usize> Search<'_, PLACES> {
     /// of q. The one is the first of the two, or the second where they are turned; then the other goes no further.
     fn seek(
         &self,
-        labels: &[u8],
+        labels: &[u16],
         p: &Table,
         more: usize,
         q: &Table,
@@ -435,7 +437,7 @@ impl<const PLACES: usize> Search<'_, PLACES> {
     /// The first path of `len` links from the tip that has no counterpart with one of the others; there is one.
     fn first_path(
         &self,
-        labels: &[u8],
+        labels: &[u16],
         tip: Tail,
         len: usize,
         q: &Table,
@@ -493,7 +495,7 @@ impl<const PLACES: usize> Search<'_, PLACES> {
 
     /// Puts the tips of all paths of at most `more` links from those of the table p into `all`, each with the cells that have the recording of
     /// one of its set: comparisons see no more of a set. False where there are more than `PLACES` classes of them.
-    fn gather(&self, labels: &[u8], p: &Table, more: usize, all: &mut Table) -> bool {
+    fn gather(&self, labels: &[u16], p: &Table, more: usize, all: &mut Table) -> bool {
         for (cells, set) in p.classes() {
             if !all.put(cells, passing(&self.other.ends[0], set), PLACES) {
                 return false;
@@ -601,8 +603,9 @@ impl<const PLACES: usize> Search<'_, PLACES> {
     }
 }
 
-/// The sheet that is written: its room, the byte where the next entry goes, and its number.
+/// The sheet that is written: its version and room, the byte where the next entry goes, and its number.
 struct Sheet<'a> {
+    version: u8,
     room: &'a mut [u8],
     at: usize,
     next: u16,
@@ -626,19 +629,21 @@ impl Sheet<'_> {
     /// Writes the steps along a path, each with the entry that describes the cell reached.
     fn put_steps(&mut self, graph: &Graph, path: &Path, described: &[u16; 64]) {
         for &k in &path.links[..path.len] {
-            let test = described[graph.to[k as usize] as usize].to_be_bytes();
-            self.put(&[graph.labels[k as usize], test[0], test[1]]);
+            let label = graph.labels[k as usize].to_be_bytes();
+            let test = described[graph.to[k as usize] as usize];
+            self.put(&label[2 - label_width(self.version)..]);
+            self.put(&test.to_be_bytes());
         }
     }
 
     /// Writes the entry that puts the reason. Where it is a link the second path is empty.
     fn put_reason(&mut self, graph: &Graph, reason: &Reason, described: &[u16; 64]) {
         let (first, second) = (&reason.first, &reason.second);
+        let steps = (step_width(self.version) * (first.len + second.len)) as u8;
         if reason.kind == WAY {
-            self.put(&[2 + 3 * first.len as u8, WAY, first.len as u8]);
+            self.put(&[2 + steps, WAY, first.len as u8]);
         } else {
-            let following = 3 + 3 * (first.len + second.len) as u8;
-            self.put(&[following, reason.kind, first.len as u8, second.len as u8]);
+            self.put(&[3 + steps, reason.kind, first.len as u8, second.len as u8]);
         }
         self.put_steps(graph, first, described);
         self.put_steps(graph, second, described);
@@ -673,7 +678,7 @@ impl Sheet<'_> {
 
     fn put_header(&mut self, bound: u8) {
         self.room[..4].copy_from_slice(&(self.at as u32).to_be_bytes());
-        self.room[4] = 1;
+        self.room[4] = self.version;
         self.room[5] = bound;
         self.room[6..8].copy_from_slice(&self.next.to_be_bytes());
     }
@@ -770,11 +775,12 @@ pub fn compare<const PLACES: usize>(
             return check;
         }
     }
+    let version = written_version(left[4], right[4]);
     let pairs = left[5] as usize * right[5] as usize;
     if map.len() != pairs {
         return refused(CALL, 21);
     }
-    if room.len() < 10 + 44 * pairs {
+    if room.len() < 10 + (20 + 8 * step_width(version)) * pairs {
         return refused(CALL, 22);
     }
     if scratch.len() < 16 * pairs {
@@ -784,6 +790,7 @@ pub fn compare<const PLACES: usize>(
     let (left, right) = (read(left), read(right));
     map.fill(0);
     let mut sheet = Sheet {
+        version,
         room,
         at: 8,
         next: 0,

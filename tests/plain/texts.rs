@@ -3,14 +3,12 @@
 
 use crate::support::checks::check_sheet;
 use crate::support::outcome::{of_length, refused, Outcome, CALL};
+use crate::support::versions::{label_of, label_width, step_width};
 use std::iter::successors;
 
 /// The most references of a chain, and the most bytes of a text.
 const MOST_CHAIN: u16 = 1024;
 const MOST_LENGTH: u64 = u32::MAX as u64;
-
-/// The bytes of a step: a label, and the number of its test.
-const STEP: usize = 3;
 
 /// How many references the longest chain from a question has, and how many bytes its text has: that of an entry up to one more than the
 /// most, so that a sum of lengths does not overflow.
@@ -46,9 +44,16 @@ fn body(sheet: &[u8], start: usize) -> &[u8] {
     &sheet[start + 1..][..sheet[start] as usize]
 }
 
-/// The steps of the two ways of a same or a differ.
-fn ways(body: &[u8]) -> (&[u8], &[u8]) {
-    body[3..].split_at(STEP * body[1] as usize)
+/// The two ways of a same or a differ, in a sheet of this version.
+fn ways(version: u8, body: &[u8]) -> (&[u8], &[u8]) {
+    body[3..].split_at(step_width(version) * body[1] as usize)
+}
+
+/// The labels and tests of the steps of a way, in a sheet of this version.
+fn steps(version: u8, way: &[u8]) -> impl Iterator<Item = (u16, usize)> + '_ {
+    let fields = way.chunks_exact(step_width(version));
+    let fields = fields.map(move |step| step.split_at(label_width(version)));
+    fields.map(|(label, test)| (label_of(label), number(test, 0)))
 }
 
 /// A reference to an entry.
@@ -60,39 +65,39 @@ fn referred(known: &[Measure], entry: usize) -> Measure {
     }
 }
 
-fn digits(label: u8) -> u64 {
+fn digits(label: u16) -> u64 {
     match label {
         0..=9 => 1,
         10..=99 => 2,
-        _ => 3,
+        100..=999 => 3,
+        1_000..=9_999 => 4,
+        _ => 5,
     }
 }
 
-fn way_measure(known: &[Measure], steps: &[u8]) -> Measure {
+fn way_measure(known: &[Measure], version: u8, way: &[u8]) -> Measure {
     let empty = Measure {
         chain: 0,
-        length: steps.is_empty() as u64, // a dot
+        length: way.is_empty() as u64, // a dot
     };
-    steps.chunks_exact(STEP).fold(empty, |out, step| {
-        out.beside(referred(known, number(step, 1)))
-            .longer(3 + digits(step[0]))
+    steps(version, way).fold(empty, |out, (label, test)| {
+        out.beside(referred(known, test)).longer(3 + digits(label))
     })
 }
 
-/// The measure of an entry, from those of the entries before.
-fn entry_measure(known: &[Measure], body: &[u8]) -> Measure {
+/// The measure of an entry of a sheet of this version, from those of the entries before.
+fn entry_measure(known: &[Measure], version: u8, body: &[u8]) -> Measure {
     let part = |place| referred(known, number(body, place));
+    let way = |way| way_measure(known, version, way);
     match body[0] {
-        0 => way_measure(known, &[]).longer(2),
+        0 => way(&[]).longer(2),
         1 => part(1).longer(3),
         2 | 3 => part(1).beside(part(3)).longer(3),
-        4 => way_measure(known, &body[2..]).longer(2),
+        4 => way(&body[2..]).longer(2),
         kind => {
-            let (w, v) = ways(body);
+            let (w, v) = ways(version, body);
             let sign = if kind == 5 { 1 } else { 2 };
-            way_measure(known, w)
-                .beside(way_measure(known, v))
-                .longer(2 + sign)
+            way(w).beside(way(v)).longer(2 + sign)
         }
     }
 }
@@ -101,7 +106,7 @@ fn entry_measure(known: &[Measure], body: &[u8]) -> Measure {
 fn last_measure(sheet: &[u8], starts: &[usize]) -> Measure {
     let mut known: Vec<Measure> = Vec::with_capacity(starts.len());
     for &start in starts {
-        let Measure { chain, length } = entry_measure(&known, body(sheet, start));
+        let Measure { chain, length } = entry_measure(&known, sheet[4], body(sheet, start));
         known.push(Measure {
             chain,
             length: length.min(MOST_LENGTH + 1),
@@ -147,7 +152,7 @@ impl Writer<'_> {
                 put(room, at, b">")
             }
             kind => {
-                let (w, v) = ways(body);
+                let (w, v) = ways(self.sheet[4], body);
                 let at = put(room, at, b"<");
                 let at = self.put_way(room, at, w);
                 let at = match kind {
@@ -160,28 +165,27 @@ impl Writer<'_> {
         }
     }
 
-    fn put_way(&self, room: &mut [u8], at: usize, steps: &[u8]) -> usize {
-        if steps.is_empty() {
+    fn put_way(&self, room: &mut [u8], at: usize, way: &[u8]) -> usize {
+        if way.is_empty() {
             return put(room, at, b".");
         }
-        steps.chunks_exact(STEP).fold(at, |at, step| {
+        steps(self.sheet[4], way).fold(at, |at, (label, test)| {
             let at = put(room, at, b"/");
-            let at = put_label(room, at, step[0]);
+            let at = put_label(room, at, label);
             let at = put(room, at, b"[");
-            let at = self.put_question(room, at, number(step, 1));
+            let at = self.put_question(room, at, test);
             put(room, at, b"]")
         })
     }
 }
 
-fn put_label(room: &mut [u8], mut at: usize, label: u8) -> usize {
-    if label >= 100 {
-        at = put(room, at, &[b'0' + label / 100]);
+fn put_label(room: &mut [u8], at: usize, mut label: u16) -> usize {
+    let next = at + digits(label) as usize;
+    for byte in room[at..next].iter_mut().rev() {
+        *byte = b'0' + (label % 10) as u8;
+        label /= 10;
     }
-    if label >= 10 {
-        at = put(room, at, &[b'0' + label / 10 % 10]);
-    }
-    put(room, at, &[b'0' + label % 10])
+    next
 }
 
 /// Where the first n entries of an accepted sheet start.

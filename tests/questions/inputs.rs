@@ -1,11 +1,12 @@
 //! Books and sheets that are accepted.
 
 use crate::expected::{truth_words, Asked};
-use crate::support::books::{example_a_left, example_a_right, link, random_book, Book};
+use crate::support::books::{chain, example_a_left, example_a_right, random_book, Book};
 use crate::support::meaning::{sheet_cells, spelled_out};
 use crate::support::outcome::accepted;
 use crate::support::random::Random;
 use crate::support::sheets::{random_sheet, step, Entry, Sheet, Step};
+use crate::support::versions::{MIXES, VERSIONS};
 use crate::tally::Tally;
 use crate::telling::{any_book, telling_sheet, Naming, Plan};
 
@@ -46,53 +47,67 @@ fn by_hand(tally: &mut Tally) {
         (Entry::Way(one(1)), 0, 0),           // true at the start only
         (Entry::Way(vec![step(2, 0)]), 0, 0), // a label of no link
     ];
-    let (left, right) = (example_a_left().bytes(), example_a_right().bytes());
     let sheet = Sheet {
         bound: 1,
         entries: entries.iter().map(|(entry, _, _)| entry.clone()).collect(),
-    }
-    .bytes();
+    };
     let of_left: Vec<u64> = entries.iter().map(|&(_, word, _)| word).collect();
     let of_right: Vec<u64> = entries.iter().map(|&(_, _, word)| word).collect();
-    assert_eq!(truth_words(&left, &sheet), of_left);
-    assert_eq!(truth_words(&right, &sheet), of_right);
+    for [one, other] in MIXES {
+        for version in VERSIONS {
+            let (left, right) = (example_a_left().bytes(one), example_a_right().bytes(other));
+            expect(
+                tally,
+                &left,
+                &right,
+                &sheet.bytes(version),
+                &of_left,
+                &of_right,
+            );
+        }
+    }
+}
 
-    let before = vec![u64::MAX; entries.len()];
-    tally.expect_truth(&left, &sheet, &before, accepted(0, 0), &of_left);
-    tally.expect_truth(&right, &sheet, &before, accepted(0, 0), &of_right);
-    for entry in 0..entries.len() {
+/// Truth of both books leaves these words, and all claims are those that follow from them.
+fn expect(
+    tally: &mut Tally,
+    left: &[u8],
+    right: &[u8],
+    sheet: &[u8],
+    of_left: &[u64],
+    of_right: &[u64],
+) {
+    assert_eq!(truth_words(left, sheet), of_left);
+    assert_eq!(truth_words(right, sheet), of_right);
+    let before = vec![u64::MAX; of_left.len()];
+    tally.expect_truth(left, sheet, &before, accepted(0, 0), of_left);
+    tally.expect_truth(right, sheet, &before, accepted(0, 0), of_right);
+    let asked = |entry, left_cell, right_cell| Asked {
+        left,
+        right,
+        sheet,
+        entry,
+        left_cell,
+        right_cell,
+    };
+    for entry in 0..of_left.len() {
         for left_cell in 0..3 {
             for right_cell in 0..2 {
-                let asked = Asked {
-                    left: &left,
-                    right: &right,
-                    sheet: &sheet,
-                    entry,
-                    left_cell,
-                    right_cell,
-                };
                 let yes =
                     of_left[entry] >> left_cell & 1 == 1 && of_right[entry] >> right_cell & 1 == 0;
-                tally.expect_claim(asked, &before, accepted(yes as u32, 0), &of_right);
+                let asked = asked(entry, left_cell, right_cell);
+                tally.expect_claim(asked, &before, accepted(yes as u32, 0), of_right);
             }
         }
     }
     // Document 01: "differ: stay, step 1" parts (0,0), and only from left to right.
-    let asked = Asked {
-        left: &left,
-        right: &right,
-        sheet: &sheet,
-        entry: 1,
-        left_cell: 0,
-        right_cell: 0,
-    };
-    tally.expect_claim(asked, &before, accepted(1, 0), &of_right);
+    tally.expect_claim(asked(1, 0, 0), &before, accepted(1, 0), of_right);
     let turned = Asked {
-        left: &right,
-        right: &left,
-        ..asked
+        left: right,
+        right: left,
+        ..asked(1, 0, 0)
     };
-    tally.expect_claim(turned, &before, accepted(0, 0), &of_left);
+    tally.expect_claim(turned, &before, accepted(0, 0), of_left);
 }
 
 /// Words to be lent: q of them and some more, with any values.
@@ -105,7 +120,20 @@ fn any_words(random: &mut Random, q: usize) -> Vec<u64> {
         .collect()
 }
 
-/// Truth of both books, and so many claims: some that are yes, if there are such.
+/// Some of the sheet's labels now and then with another high byte, so that they agree with those of a book in the low byte alone.
+fn perhaps_wider(random: &mut Random, sheet: &Sheet) -> Sheet {
+    if !random.one_in(4) {
+        return sheet.clone();
+    }
+    let mut label = |label: u16| label ^ random.pick(&[0, 0, 0, 0, 0, 0, 256, 65_280]);
+    let entries = sheet.entries.iter();
+    Sheet {
+        bound: sheet.bound,
+        entries: entries.map(|entry| entry.relabelled(&mut label)).collect(),
+    }
+}
+
+/// Truth of both books, and so many claims: some that are yes, if there are such. All are of any version.
 fn ask(
     tally: &mut Tally,
     random: &mut Random,
@@ -116,8 +144,8 @@ fn ask(
 ) {
     let q = sheet.entries.len();
     let (cells, right_cells) = (left.cells(), right.cells());
-    let (left, right) = (left.bytes(), right.bytes());
-    let sheet = sheet.bytes();
+    let (left, right) = (left.any_bytes(random), right.any_bytes(random));
+    let sheet = perhaps_wider(random, sheet).any_bytes(random);
     let of_left = tally.truth(&left, &sheet, &any_words(random, q));
     let of_right = tally.truth(&right, &sheet, &any_words(random, q));
     for turn in 0..claims {
@@ -181,8 +209,8 @@ fn spelled(tally: &mut Tally, random: &mut Random) {
         for (number, cells) in sheet_cells(&book, &sheet).iter().enumerate() {
             assert_eq!(*cells, spelled_out(&book, &sheet, number as u16));
         }
-        assert_eq!(Book::of_bytes(&book.bytes()), book);
-        assert_eq!(Sheet::of_bytes(&sheet.bytes()), sheet);
+        assert_eq!(Book::of_bytes(&book.any_bytes(random)), book);
+        assert_eq!(Sheet::of_bytes(&sheet.any_bytes(random)), sheet);
         ask(tally, random, &book, &book, &sheet, 2);
     }
 }
@@ -254,10 +282,8 @@ fn large(tally: &mut Tally, random: &mut Random) {
 
 /// A chain of 64 cells, and ways of 60 steps of which one decides: by its test, or by its label.
 fn each_step(tally: &mut Tally, random: &mut Random) {
-    let chain = |label: fn(u8) -> u8| Book {
-        recordings: (0..64).collect(),
-        links: (0..63).map(|x| link(x, label(x), x + 1)).collect(),
-    };
+    let recordings: Vec<u32> = (0..64).collect();
+    let chained = |label: fn(u8) -> u16| chain(recordings.clone(), label);
     let mut entries = vec![Entry::True];
     // Entry k: there is a way of k steps, true at the cells up to 63 - k.
     for k in 1..=MOST_STEPS {
@@ -275,21 +301,25 @@ fn each_step(tally: &mut Tally, random: &mut Random) {
         steps[place].test = 62 + 2 * (63 - cell as u16);
         entries.push(Entry::Way(steps));
     }
-    let book = chain(|_| 7);
+    let book = chained(|_| 7);
     let sheet = Sheet { bound: 0, entries };
-    ask(tally, random, &book, &chain(|x| 7 - x % 2), &sheet, 1);
+    let other = chained(|x| 7 - x as u16 % 2);
+    ask(tally, random, &book, &other, &sheet, 1);
 
-    let mut entries = vec![Entry::True];
-    for place in 0..MOST_STEPS {
-        let start = random.below(4) as u8;
-        let steps = (start..).map(|x| step(200 - x, 0));
-        let mut steps: Vec<Step> = steps.take(MOST_STEPS).collect();
-        entries.push(Entry::Way(steps.clone()));
-        steps[place].label ^= 1;
-        entries.push(Entry::Way(steps));
+    for changed in [1, 256] {
+        let mut entries = vec![Entry::True];
+        for place in 0..MOST_STEPS {
+            let start = random.below(4) as u16;
+            let steps = (start..).map(|x| step(200 - x, 0));
+            let mut steps: Vec<Step> = steps.take(MOST_STEPS).collect();
+            entries.push(Entry::Way(steps.clone()));
+            steps[place].label ^= changed;
+            entries.push(Entry::Way(steps));
+        }
+        let sheet = Sheet { bound: 0, entries };
+        let falling = chained(|x| 200 - x as u16);
+        ask(tally, random, &falling, &book, &sheet, 1);
     }
-    let sheet = Sheet { bound: 0, entries };
-    ask(tally, random, &chain(|x| 200 - x), &book, &sheet, 1);
 }
 
 /// Questions that name one before, which names one before, and so on for thousands of entries.

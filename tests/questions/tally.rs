@@ -2,7 +2,7 @@
 
 use crate::expected::{self, Asked};
 use crate::plain;
-use crate::support::counts::{Counts, OF_BOOK, OF_SHEET};
+use crate::support::counts::{Counts, Versions, OF_BOOK, OF_SHEET};
 use crate::support::hex;
 use crate::support::lent::Lent;
 use crate::support::library;
@@ -14,6 +14,9 @@ const PRINTED: usize = 16_384;
 pub struct Tally {
     truth: Counts,
     claim: Counts,
+    /// Of the book and the sheet, or of the left book, the right one and the sheet.
+    truth_versions: Versions,
+    claim_versions: Versions,
     turn: usize,
     /// Words of Truth: of no cell, of every cell, and of others.
     none: usize,
@@ -26,6 +29,8 @@ impl Tally {
         Tally {
             truth: Counts::new("truth"),
             claim: Counts::new("claim"),
+            truth_versions: Versions::default(),
+            claim_versions: Versions::default(),
             turn: 0,
             none: 0,
             every: 0,
@@ -86,6 +91,9 @@ impl Tally {
         call.compare(answer, expected, &lent_words, expected_words);
         call.unchanged(&[(&lent_book, book), (&lent_sheet, sheet)]);
         self.truth.count(answer, "words written");
+        if answer.refusal == 0 {
+            self.truth_versions.count(&[book, sheet]);
+        }
         self.turn += 1;
     }
 
@@ -147,6 +155,12 @@ impl Tally {
         ]);
         self.claim
             .count(answer, if answer.first == 1 { "yes" } else { "no" });
+        if answer.refusal == 0 {
+            let Asked {
+                left, right, sheet, ..
+            } = asked;
+            self.claim_versions.count(&[left, right, sheet]);
+        }
         self.turn += 1;
     }
 
@@ -176,6 +190,8 @@ impl Tally {
                 (CALL, &[24, 25, 26]),
             ],
         );
+        self.truth_versions.report("truth");
+        self.claim_versions.report("claim");
         truth + claim
     }
 }

@@ -4,10 +4,11 @@
 use crate::support::books::{link, most_links, random_book, Book};
 use crate::support::meaning::{entry_cells, Cells};
 use crate::support::random::Random;
+use crate::support::remade::any_labels;
 use crate::support::sheets::{step, Entry, Sheet, Step};
 use std::collections::BTreeSet;
 
-/// A book of so many cells (1 to 64).
+/// A book of so many cells (1 to 64), with any labels.
 pub fn any_book(random: &mut Random, cells: usize) -> Book {
     let labels = random.pick(&[1, 1, 2, 3, 5, 256]);
     let most = most_links(cells, labels);
@@ -19,7 +20,7 @@ pub fn any_book(random: &mut Random, cells: usize) -> Book {
         _ => random.between(cells, 4 * cells + 1).min(most), // several from a cell
     };
     let mut book = random_book(random, cells, links, labels, recordings);
-    let label = random.below(labels) as u8;
+    let label = random.below(labels) as u16;
     let mut rising: BTreeSet<_> = book.links.iter().copied().collect();
     match random.below(6) {
         // All cells in a ring.
@@ -42,6 +43,7 @@ pub fn any_book(random: &mut Random, cells: usize) -> Book {
             *recording = random.pick(&values);
         }
     }
+    let [book] = any_labels(random, [book]);
     book
 }
 

@@ -2,9 +2,9 @@
 
 #include <string.h>
 
-/* Every step has this label: the longest one. */
-#define LABEL 255
-#define BEFORE_TEST "/255["
+/* Every step has this label: the longest one. All its bytes are 255, one in version 1 and two in version 2. */
+#define LABEL_BYTE 255
+static const char *const before_test[] = {[1] = "/255[", [2] = "/65535["};
 
 const struct place places[] = {
     {"not", 1, {0, 0}, 0},
@@ -38,8 +38,8 @@ static size_t numbers(const struct place *place)
     return place->kind >= 4 ? place->steps[0] + place->steps[1] : place->kind == 1 ? 1 : 2;
 }
 
-/* An entry with its count byte. */
-static size_t put_entry(uint8_t *bytes, const struct place *place, size_t number)
+/* An entry with its count byte, in a sheet of this version. */
+static size_t put_entry(uint8_t *bytes, uint8_t version, const struct place *place, size_t number)
 {
     uint8_t *at = bytes + 1;
     *at++ = place->kind;
@@ -47,8 +47,8 @@ static size_t put_entry(uint8_t *bytes, const struct place *place, size_t number
         *at++ = place->steps[way];
     for (size_t k = 0; k < numbers(place); k++) {
         size_t named = k == place->at ? number : 0;
-        if (place->kind >= 4)
-            *at++ = LABEL;
+        for (int label = 0; place->kind >= 4 && label < version; label++)
+            *at++ = LABEL_BYTE;
         *at++ = (uint8_t)(named >> 8);
         *at++ = (uint8_t)named;
     }
@@ -57,7 +57,7 @@ static size_t put_entry(uint8_t *bytes, const struct place *place, size_t number
 }
 
 /* The text of an entry, in two parts: before and after the question of the number at the place. */
-static void put_form(char *before, char *after, const struct place *place)
+static void put_form(char *before, char *after, uint8_t version, const struct place *place)
 {
     const uint8_t kind = place->kind, second = kind >= 4 ? place->steps[0] : 1;
     char *text = strcpy(before, forms[kind].open);
@@ -68,7 +68,7 @@ static void put_form(char *before, char *after, const struct place *place)
         if (k == second)
             strcat(text, forms[kind].sign);
         if (kind >= 4)
-            strcat(text, BEFORE_TEST);
+            strcat(text, before_test[version]);
         if (k == place->at)
             text = after;
         else
@@ -89,19 +89,19 @@ static void add_text(struct chain *chain, const char *text, size_t times)
     }
 }
 
-void make_chain(struct chain *chain, const struct place *place)
+void make_chain(struct chain *chain, uint8_t version, const struct place *place)
 {
     /* Bound 4; entry 0: true; entry 1: "differ: stay, stay"; then the references. */
-    const uint8_t start[] = {0, 0, 0, 0, 1, 4, (2 + REFERENCES) >> 8, (2 + REFERENCES) & 0xff, 1, 0, 3, 6, 0, 0};
+    const uint8_t start[] = {0, 0, 0, 0, version, 4, (2 + REFERENCES) >> 8, (2 + REFERENCES) & 0xff, 1, 0, 3, 6, 0, 0};
     char before[LONGEST_FORM + 1], after[LONGEST_FORM + 1];
     memcpy(chain->sheet, start, sizeof start);
     chain->sheet_size = sizeof start;
     for (chain->entry = 1; chain->entry <= REFERENCES; chain->entry++)
-        chain->sheet_size += put_entry(chain->sheet + chain->sheet_size, place, chain->entry);
+        chain->sheet_size += put_entry(chain->sheet + chain->sheet_size, version, place, chain->entry);
     for (size_t at = 0; at < 4; at++)
         chain->sheet[at] = (uint8_t)(chain->sheet_size >> (24 - 8 * at));
 
-    put_form(before, after, place);
+    put_form(before, after, version, place);
     chain->text_size = 0;
     add_text(chain, before, REFERENCES);
     add_text(chain, "<.!=.>", 1);

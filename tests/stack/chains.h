@@ -5,7 +5,7 @@
 #include <stddef.h>
 #include <stdint.h>
 
-enum { REFERENCES = 1024, LONGEST_ENTRY = 1 + 2 + 3 * 60, LONGEST_FORM = 9 * 60 + 4 };
+enum { REFERENCES = 1024, LONGEST_ENTRY = 1 + 2 + 4 * 60, LONGEST_FORM = 11 * 60 + 4 };
 
 /* The place from which each entry refers to the one before; the other numbers in it name entry 0. */
 struct place {
@@ -26,7 +26,7 @@ struct chain {
     size_t text_size;
 };
 
-/* The chain of references from one place, and its text. */
-void make_chain(struct chain *chain, const struct place *place);
+/* The chain of references from one place, in a sheet of this version, and its text. */
+void make_chain(struct chain *chain, uint8_t version, const struct place *place);
 
 #endif

@@ -68,14 +68,15 @@ static void keeps(struct function *function, const char *place, size_t itself)
 int main(void)
 {
     size_t itself = thread_itself();
-    for (size_t place = 0; place < places_count; place++) {
-        make_chain(&chain, &places[place]);
-        for (size_t k = 0; k < 2; k++)
-            keeps(&functions[k], places[place].name, itself);
-    }
+    for (uint8_t version = 1; version <= 2; version++)
+        for (size_t place = 0; place < places_count; place++) {
+            make_chain(&chain, version, &places[place]);
+            for (size_t k = 0; k < 2; k++)
+                keeps(&functions[k], places[place].name, itself);
+        }
     printf("stack: ");
     for (size_t k = 0; k < 2; k++)
         printf("%s takes %zu bytes of %zu, ", functions[k].name, functions[k].most, functions[k].promised);
-    printf("the thread itself %zu, over %zu chains\n", itself, places_count);
+    printf("the thread itself %zu, over %zu chains of each version\n", itself, places_count);
     return 0;
 }

@@ -2,13 +2,14 @@
 
 use super::random::Random;
 use super::set_length;
+use super::versions::{any_version, label_bytes, label_of, link_width};
 use std::collections::BTreeSet;
 
 /// Ordered as triples.
 #[derive(Clone, Copy, PartialEq, Eq, PartialOrd, Ord, Debug)]
 pub struct Link {
     pub from: u8,
-    pub label: u8,
+    pub label: u16,
     pub to: u8,
 }
 
@@ -19,7 +20,7 @@ pub struct Book {
     pub links: Vec<Link>,
 }
 
-pub fn link(from: u8, label: u8, to: u8) -> Link {
+pub fn link(from: u8, label: u16, to: u8) -> Link {
     Link { from, label, to }
 }
 
@@ -31,23 +32,31 @@ pub fn book(recordings: &[u32], links: &[Link]) -> Book {
 }
 
 impl Book {
-    /// The bytes of these recordings and links, whether or not a check would accept them. The fields for n and e hold as
-    /// much of the counts as they can.
-    pub fn bytes(&self) -> Vec<u8> {
-        let mut bytes = vec![0, 0, 0, 0, 1, self.recordings.len() as u8];
+    /// The bytes of these recordings and links in a version that has their labels, whether or not a check would accept them. The
+    /// fields for n and e hold as much of the counts as they can.
+    pub fn bytes(&self, version: u8) -> Vec<u8> {
+        let mut bytes = vec![0, 0, 0, 0, version, self.recordings.len() as u8];
         bytes.extend((self.links.len() as u16).to_be_bytes());
         for recording in &self.recordings {
             bytes.extend(recording.to_be_bytes());
         }
         for link in &self.links {
-            bytes.extend([link.from, link.label, link.to]);
+            bytes.push(link.from);
+            bytes.extend(label_bytes(version, link.label));
+            bytes.push(link.to);
         }
         set_length(&mut bytes);
         bytes
     }
 
+    /// The bytes in any version that has the labels.
+    pub fn any_bytes(&self, random: &mut Random) -> Vec<u8> {
+        self.bytes(any_version(random, self.labels()))
+    }
+
     /// The book that these bytes hold, which a check accepts.
     pub fn of_bytes(bytes: &[u8]) -> Book {
+        let width = link_width(bytes[4]);
         let (recordings, links) = bytes[8..].split_at(4 * bytes[5] as usize);
         Book {
             recordings: recordings
@@ -55,14 +64,19 @@ impl Book {
                 .map(|field| u32::from_be_bytes([field[0], field[1], field[2], field[3]]))
                 .collect(),
             links: links
-                .chunks(3)
-                .map(|field| link(field[0], field[1], field[2]))
+                .chunks(width)
+                .map(|field| link(field[0], label_of(&field[1..width - 1]), field[width - 1]))
                 .collect(),
         }
     }
 
     pub fn cells(&self) -> usize {
         self.recordings.len()
+    }
+
+    /// The labels of the links.
+    pub fn labels(&self) -> impl Iterator<Item = u16> + '_ {
+        self.links.iter().map(|link| link.label)
     }
 }
 
@@ -83,7 +97,7 @@ pub fn example_a_right() -> Book {
 }
 
 /// A chain of these recordings: cell x leads to cell x + 1 by `label(x)`.
-pub fn chain(recordings: Vec<u32>, label: impl Fn(u8) -> u8) -> Book {
+pub fn chain(recordings: Vec<u32>, label: impl Fn(u8) -> u16) -> Book {
     let last = recordings.len() as u8 - 1;
     Book {
         recordings,
@@ -105,7 +119,7 @@ pub fn most_links(cells: usize, labels: usize) -> usize {
     (cells * labels * cells).min(512)
 }
 
-/// A book that is accepted: 1 to 64 cells; labels below `labels` (1 to 256); recordings below `recordings` (1 to 2^32);
+/// A book that is accepted: 1 to 64 cells; labels below `labels` (1 to 65,536); recordings below `recordings` (1 to 2^32);
 /// `links` links, at most `most_links`.
 pub fn random_book(
     random: &mut Random,
@@ -118,7 +132,7 @@ pub fn random_book(
     let mut rising = BTreeSet::new();
     while rising.len() < links {
         let from = random.below(cells) as u8;
-        let label = random.below(labels) as u8;
+        let label = random.below(labels) as u16;
         let to = random.below(cells) as u8;
         rising.insert(link(from, label, to));
     }

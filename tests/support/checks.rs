@@ -1,7 +1,9 @@
-//! The two checks of document 01, "The operations and when they decline", written from its sentences.
+//! The two checks of document 01, "The operations and when they decline", written from its sentences, for both versions of document 02,
+//! request 2026-02.
 //! Independent of the library: later tests may rest on these for the refusals of lent books and sheets.
 
 use super::outcome::{accepted, refused, Outcome, SHEET};
+use super::versions::{label_of, label_width, link_width, VERSIONS};
 
 /// Check a book: n and e, or the first refusal, which speaks of `part` (the left or only book, or the right one).
 pub fn check_book(bytes: &[u8], part: u8) -> Outcome {
@@ -19,8 +21,8 @@ pub fn check_sheet(bytes: &[u8]) -> Outcome {
     }
 }
 
-/// "1: fewer than 8 bytes. 2: L is not the number of bytes lent. 3: version." Then byte 5 and bytes 6-7.
-fn header(bytes: &[u8]) -> Result<(usize, usize), u8> {
+/// "1: fewer than 8 bytes. 2: L is not the number of bytes lent. 3: version." The version, byte 5 and bytes 6-7.
+fn header(bytes: &[u8]) -> Result<(u8, usize, usize), u8> {
     let Some(header) = bytes.first_chunk::<8>() else {
         return Err(1);
     };
@@ -28,39 +30,43 @@ fn header(bytes: &[u8]) -> Result<(usize, usize), u8> {
     if u32::from_be_bytes([l0, l1, l2, l3]) as usize != bytes.len() {
         return Err(2);
     }
-    if version != 1 {
+    // "Version 1 is still read, .. and refusal 3 now means neither."
+    if !VERSIONS.contains(&version) {
         return Err(3);
     }
-    Ok((byte as usize, u16::from_be_bytes([high, low]) as usize))
+    let field = u16::from_be_bytes([high, low]);
+    Ok((version, byte as usize, field as usize))
 }
 
 fn book_counts(bytes: &[u8]) -> Result<(usize, usize), u8> {
-    let (n, e) = header(bytes)?;
+    let (version, n, e) = header(bytes)?;
+    let width = link_width(version);
     // "4: n or e out of range. 5: L breaks the formula."
     if !(1..=64).contains(&n) || !(0..=512).contains(&e) {
         return Err(4);
     }
-    if bytes.len() != 8 + 4 * n + 3 * e {
+    if bytes.len() != 8 + 4 * n + width * e {
         return Err(5);
     }
     // "Then link by link from the front, 6: a cell not below n; 7: not above the link before."
-    let mut before: Option<[u8; 3]> = None;
-    for link in bytes[8 + 4 * n..].chunks(3) {
-        let [from, label, to] = [link[0], link[1], link[2]];
+    let mut before: Option<(u8, u16, u8)> = None;
+    for link in bytes[8 + 4 * n..].chunks(width) {
+        let (from, to) = (link[0], link[width - 1]);
         if from as usize >= n || to as usize >= n {
             return Err(6);
         }
-        // Arrays are compared as triples.
-        if before >= Some([from, label, to]) {
+        // Compared as triples.
+        let triple = Some((from, label_of(&link[1..width - 1]), to));
+        if before >= triple {
             return Err(7);
         }
-        before = Some([from, label, to]);
+        before = triple;
     }
     Ok((n, e))
 }
 
 fn sheet_counts(bytes: &[u8]) -> Result<(usize, usize), u8> {
-    let (c, q) = header(bytes)?;
+    let (version, c, q) = header(bytes)?;
     // "8: c or q out of range."
     if !(0..=4).contains(&c) || !(1..=16385).contains(&q) {
         return Err(8);
@@ -73,7 +79,7 @@ fn sheet_counts(bytes: &[u8]) -> Result<(usize, usize), u8> {
             return Err(9);
         }
         let (entry, next) = after.split_at_checked(count as usize).ok_or(9)?;
-        check_entry(number, c, entry[0], &entry[1..])?;
+        check_entry(version, number, c, entry[0], &entry[1..])?;
         rest = next;
     }
     // "After the last, 9: bytes left over."
@@ -84,8 +90,8 @@ fn sheet_counts(bytes: &[u8]) -> Result<(usize, usize), u8> {
     }
 }
 
-/// The entry of that number in a sheet of bound c: its kind byte and the bytes that follow it.
-fn check_entry(number: usize, c: usize, kind: u8, body: &[u8]) -> Result<(), u8> {
+/// The entry of that number in a sheet of this version and bound c: its kind byte and the bytes that follow it.
+fn check_entry(version: u8, number: usize, c: usize, kind: u8, body: &[u8]) -> Result<(), u8> {
     // "10: kind above 6; 13: entry 0 not kind 0".
     if kind > 6 {
         return Err(10);
@@ -108,7 +114,10 @@ fn check_entry(number: usize, c: usize, kind: u8, body: &[u8]) -> Result<(), u8>
         0 => (0, 0),
         1 => (1, 0),
         2 | 3 => (2, 0),
-        _ => (step_counts.iter().map(|&k| k as usize).sum(), 1),
+        _ => {
+            let steps = step_counts.iter().map(|&k| k as usize).sum();
+            (steps, label_width(version))
+        }
     };
     if fields.len() != count * (label + 2) {
         return Err(14);

@@ -1,4 +1,4 @@
-//! How often each answer was seen.
+//! How often each answer was seen, and each mix of versions.
 
 use super::outcome::{Outcome, CALL, LEFT_BOOK, RIGHT_BOOK, SHEET};
 use std::collections::BTreeMap;
@@ -75,5 +75,28 @@ fn of(part: u8) -> &'static str {
         RIGHT_BOOK => " of the right",
         SHEET => " of the sheet",
         _ => " of no part",
+    }
+}
+
+/// How often books and sheets of each mix of versions were accepted together.
+#[derive(Default)]
+pub struct Versions(BTreeMap<Vec<u8>, usize>);
+
+impl Versions {
+    /// Counts what was accepted, always as many books and sheets.
+    pub fn count(&mut self, accepted: &[&[u8]]) {
+        let versions = accepted.iter().map(|bytes| bytes[4]).collect();
+        *self.0.entry(versions).or_insert(0) += 1;
+    }
+
+    /// Prints the counts, and ends the test where a mix is less than a fortieth of all.
+    pub fn report(&self, operation: &str) {
+        println!("{operation}, accepted by versions: {:?}", self.0);
+        let all: usize = self.0.values().sum();
+        let mixes = self.0.keys().next().map_or(1, |first| 1 << first.len());
+        if self.0.len() < mixes || self.0.values().any(|times| times * 40 < all) {
+            println!("{operation}: a mix of versions was seen too seldom");
+            std::process::exit(1);
+        }
     }
 }

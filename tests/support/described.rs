@@ -92,9 +92,9 @@ impl State {
     }
 }
 
-/// What Compare leaves for two books: at most as many rounds as there are pairs, until one parts none. Each parts the pairs that
-/// have a reason under the relation that it began with.
-pub fn compared(left: &Book, right: &Book, c: usize) -> Compared {
+/// What Compare leaves for two books, where it writes a sheet of this version: at most as many rounds as there are pairs, until one parts
+/// none. Each parts the pairs that have a reason under the relation that it began with.
+pub fn compared(left: &Book, right: &Book, c: usize, version: u8) -> Compared {
     let (n, m) = (left.cells(), right.cells());
     let mut state = State {
         entries: vec![Entry::True],
@@ -136,7 +136,7 @@ pub fn compared(left: &Book, right: &Book, c: usize) -> Compared {
         bound: c as u8,
         entries: state.entries,
     };
-    let sheet = sheet.bytes();
+    let sheet = sheet.bytes(version);
     let zeros = state.map.iter().filter(|&&number| number == 0).count();
     Compared {
         answer: accepted(sheet.len() as u32, zeros as u32),

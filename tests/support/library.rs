@@ -1,6 +1,7 @@
 //! The library's functions for C (include/cuhnavel.h), as safe functions.
 
 use super::outcome::Outcome;
+use super::versions::step_width;
 
 extern "C" {
     fn cuhnavel_check_book(bytes: *const u8, len: usize) -> u64;
@@ -132,9 +133,11 @@ pub fn links(book: &[u8], cell: usize) -> Outcome {
     Outcome::of_number(unsafe { cuhnavel_links(book.as_ptr(), book.len(), cell) })
 }
 
-/// What Compare needs for so many pairs of cells: places of the map, bytes of room, bytes of scratch.
-pub fn needed(pairs: usize) -> (usize, usize, usize) {
-    (pairs, 10 + 44 * pairs, 16 * pairs)
+/// What Compare needs for so many pairs of cells, where it writes a sheet of this version: places of the map, bytes of room, bytes of
+/// scratch. For a pair there are four entries at most, of which one has 8 steps at most: 44 bytes in version 1, 52 in version 2.
+pub fn needed(pairs: usize, version: u8) -> (usize, usize, usize) {
+    let room = 10 + (20 + 8 * step_width(version)) * pairs;
+    (pairs, room, 16 * pairs)
 }
 
 /// Compare.

@@ -54,7 +54,7 @@ struct Tip {
 
 /// A book, by its cells: the labels and targets of their links, and the cells of the same and of other recordings.
 struct Side {
-    links: Vec<Vec<(u8, usize)>>,
+    links: Vec<Vec<(u16, usize)>>,
     passing: [Vec<u64>; 2],
 }
 
@@ -73,7 +73,7 @@ impl Side {
     }
 
     /// Where the label leads to from these cells.
-    fn image(&self, cells: u64, label: u8) -> u64 {
+    fn image(&self, cells: u64, label: u16) -> u64 {
         let out = members(cells).flat_map(|x| &self.links[x]);
         word(out.filter(|link| link.0 == label).map(|link| link.1))
     }

@@ -47,7 +47,7 @@ fn stay(book: &Book) -> Pairs {
 }
 
 /// ↓a: {(x, y) | (x, a, y) a link}
-fn step(book: &Book, label: u8) -> Pairs {
+fn step(book: &Book, label: u16) -> Pairs {
     let mut pairs = Pairs::none(book);
     for link in &book.links {
         if link.label == label {

@@ -4,13 +4,10 @@ use super::sheets::{Entry, Sheet, Step};
 
 /// The numbers that an entry names.
 pub fn named(entry: &Entry) -> Vec<u16> {
-    let tests = |way: &[Step]| -> Vec<u16> { way.iter().map(|step| step.test).collect() };
     match entry {
-        Entry::True => vec![],
         Entry::Not(a) => vec![*a],
         Entry::And(a, b) | Entry::Or(a, b) => vec![*a, *b],
-        Entry::Way(w) => tests(w),
-        Entry::Same(w, v) | Entry::Differ(w, v) => [tests(w), tests(v)].concat(),
+        _ => entry.steps().map(|step| step.test).collect(),
     }
 }
 

@@ -20,6 +20,7 @@ pub mod refusals;
 pub mod remade;
 pub mod shapes;
 pub mod sheets;
+pub mod versions;
 
 /// Writes the number of all bytes into the length field, bytes 0 to 3, as far as there are such bytes.
 pub fn set_length(bytes: &mut [u8]) {

@@ -6,7 +6,7 @@ use super::books::Book;
 /// A way of cells: the labels of its links in order, and the cells of its places, from the first to its end.
 #[derive(Clone)]
 struct Way {
-    labels: Vec<u8>,
+    labels: Vec<u16>,
     cells: Vec<usize>,
 }
 

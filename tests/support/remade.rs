@@ -1,28 +1,31 @@
-//! Books made from others as a studio returns them: renumbered, split and joined. Where it is said so, each cell has the one it
-//! comes from for a partner, at every bound.
+//! Books made from others as a studio returns them: renumbered, split and joined; and books with other labels. Where it is said so, each
+//! cell has the one it comes from for a partner, at every bound.
 
 use super::books::{link, Book, Link};
 use super::random::Random;
-use std::collections::BTreeSet;
+use std::collections::{BTreeMap, BTreeSet};
+
+/// Puts the values into any order.
+fn shuffle<T>(random: &mut Random, values: &mut [T]) {
+    for last in (1..values.len()).rev() {
+        values.swap(last, random.below(last + 1));
+    }
+}
 
 /// The numbers below `count` in any order.
 fn shuffled(random: &mut Random, count: usize) -> Vec<u8> {
     let mut numbers: Vec<u8> = (0..count as u8).collect();
-    for last in (1..count).rev() {
-        numbers.swap(last, random.below(last + 1));
-    }
+    shuffle(random, &mut numbers);
     numbers
 }
 
-/// So many different recordings.
-fn different(random: &mut Random, count: usize) -> Vec<u32> {
-    let mut recordings = BTreeSet::new();
-    while recordings.len() < count {
-        let any = random.next() as u32;
-        let few = random.below(2 * count) as u32;
-        recordings.insert(random.pick(&[any, few]));
+/// So many different values of those that are drawn, in rising order.
+fn different<T: Ord>(random: &mut Random, count: usize, draw: impl Fn(&mut Random) -> T) -> Vec<T> {
+    let mut values = BTreeSet::new();
+    while values.len() < count {
+        values.insert(draw(random));
     }
-    recordings.into_iter().collect()
+    values.into_iter().collect()
 }
 
 /// The book with its cells in any order, and any other recordings of which the same are the same. Each cell is the partner of the
@@ -30,7 +33,11 @@ fn different(random: &mut Random, count: usize) -> Vec<u32> {
 pub fn renumbered(random: &mut Random, book: &Book) -> Book {
     let kinds: BTreeSet<u32> = book.recordings.iter().copied().collect();
     let kinds: Vec<u32> = kinds.into_iter().collect();
-    let renamed = different(random, kinds.len());
+    let renamed = different(random, kinds.len(), |random| {
+        let any = random.next() as u32;
+        let few = random.below(2 * kinds.len()) as u32;
+        random.pick(&[any, few])
+    });
     let order = shuffled(random, kinds.len()); // of the new recordings
     let numbers = shuffled(random, book.cells());
     let mut recordings = vec![0; book.cells()];
@@ -140,4 +147,50 @@ pub fn damaged(random: &mut Random, book: &Book) -> Book {
     }
     book.links = rising(book.links.into_iter());
     book
+}
+
+/// Any label. Many of these agree in their low or in their high byte.
+pub fn any_label(random: &mut Random) -> u16 {
+    let any = random.next() as u16;
+    let bytes = [0; 2].map(|_: u8| random.pick(&[0, 0, 1, 255]));
+    random.pick(&[any, u16::from_be_bytes(bytes), u16::from_be_bytes(bytes)])
+}
+
+/// The books with other labels, of those that are drawn: the same for the same, different ones for different ones. Cells that were
+/// partners still are.
+fn relabelled<const N: usize>(
+    random: &mut Random,
+    books: [Book; N],
+    draw: fn(&mut Random) -> u16,
+) -> [Book; N] {
+    let labels: BTreeSet<u16> = books.iter().flat_map(Book::labels).collect();
+    let mut others = different(random, labels.len(), draw);
+    shuffle(random, &mut others);
+    let renamed: BTreeMap<u16, u16> = labels.into_iter().zip(others).collect();
+    books.map(|book| Book {
+        links: rising(
+            book.links
+                .iter()
+                .map(|l| link(l.from, renamed[&l.label], l.to)),
+        ),
+        ..book
+    })
+}
+
+/// The books, of at most 256 labels, as they are or with others of one byte or of two, or with one label changed in its high byte alone.
+pub fn any_labels<const N: usize>(random: &mut Random, mut books: [Book; N]) -> [Book; N] {
+    match random.below(10) {
+        0 => relabelled(random, books, |random| random.byte() as u16),
+        1 | 2 => relabelled(random, books, any_label),
+        3 => {
+            let links = &mut books[random.below(N)].links;
+            let place = random.below(links.len().max(1));
+            if let Some(link) = links.get_mut(place) {
+                link.label ^= 256;
+            }
+            *links = rising(links.iter().copied());
+            books
+        }
+        _ => books,
+    }
 }

@@ -3,7 +3,7 @@
 use super::books::{chain, link, most_links, random_book, ring, Book};
 use super::partners::most_ways;
 use super::random::Random;
-use super::remade::{both, damaged, joined, renumbered, split};
+use super::remade::{any_labels, both, damaged, joined, renumbered, split};
 
 /// The naive comparison takes long where a cell has many ways.
 const MOST_WAYS: usize = 48;
@@ -80,12 +80,12 @@ pub const SHAPES: [Shape; 11] = [
     },
 ];
 
-/// Two books of the shape, with at most `MOST_WAYS` ways of 0 to `bound` links from a cell.
+/// Two books of the shape with any labels, with at most `MOST_WAYS` ways of 0 to `bound` links from a cell.
 pub fn draw(random: &mut Random, shape: &Shape, bound: usize) -> (Book, Book) {
     loop {
         let (left, right) = (shape.draw)(random, bound);
         if most_ways(&left, bound).max(most_ways(&right, bound)) <= MOST_WAYS {
-            return (left, right);
+            return any_labels(random, [left, right]).into();
         }
     }
 }
@@ -141,7 +141,7 @@ fn several_by_a_label(random: &mut Random, _: usize) -> (Book, Book) {
 /// Chains: of any recordings, or the second much like the first; or with one recording twice, as far apart as the bound.
 fn chains(random: &mut Random, bound: usize) -> (Book, Book) {
     let labels = random.pick(&[1, 1, 2]);
-    let label = |x| x % labels; // by one, or by two in turn
+    let label = |x| (x % labels) as u16; // by one, or by two in turn
     let cells = random.between(1, 7);
     if random.one_in(2) {
         let mut apart: Vec<u32> = (0..cells.max(bound + 1) as u32).collect();
@@ -196,7 +196,7 @@ fn branches(random: &mut Random, bound: usize) -> (Book, Book) {
     let ends = random.between(1, 3);
     let mut book = random_book(random, 1 + ends, 0, 1, 3);
     book.recordings[0] = 3;
-    for label in 1..=random.between(2, 3) as u8 {
+    for label in 1..=random.between(2, 3) as u16 {
         let length = match label {
             1 => bound,
             _ => random.between(1, bound.max(1)),

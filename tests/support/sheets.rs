@@ -2,11 +2,12 @@
 
 use super::random::Random;
 use super::set_length;
+use super::versions::{any_version, label_bytes, label_of, label_width, step_width};
 
 /// A step along a label, with the number of a test at the cell reached.
 #[derive(Clone, Copy, PartialEq, Eq, Debug)]
 pub struct Step {
-    pub label: u8,
+    pub label: u16,
     pub test: u16,
 }
 
@@ -28,13 +29,13 @@ pub struct Sheet {
     pub entries: Vec<Entry>,
 }
 
-pub fn step(label: u8, test: u16) -> Step {
+pub fn step(label: u16, test: u16) -> Step {
     Step { label, test }
 }
 
 impl Entry {
-    /// The kind byte and what follows it.
-    pub fn body(&self) -> Vec<u8> {
+    /// The kind byte and what follows it, in a version that has the labels.
+    pub fn body(&self, version: u8) -> Vec<u8> {
         let mut body = Vec::new();
         match self {
             Entry::True => body.push(0),
@@ -49,7 +50,7 @@ impl Entry {
             }
             Entry::Way(steps) => {
                 body.extend([4, steps.len() as u8]);
-                push_steps(&mut body, steps);
+                push_steps(&mut body, version, steps);
             }
             Entry::Same(w, v) | Entry::Differ(w, v) => {
                 body.push(if matches!(self, Entry::Same(..)) {
@@ -58,19 +59,21 @@ impl Entry {
                     6
                 });
                 body.extend([w.len() as u8, v.len() as u8]);
-                push_steps(&mut body, w);
-                push_steps(&mut body, v);
+                push_steps(&mut body, version, w);
+                push_steps(&mut body, version, v);
             }
         }
         body
     }
 
-    /// The entry of this kind byte and what follows it, which a check accepts.
-    pub fn of_body(body: &[u8]) -> Entry {
+    /// The entry of this kind byte and what follows it, which a check accepts in this version.
+    pub fn of_body(version: u8, body: &[u8]) -> Entry {
         let number = |place: usize| u16::from_be_bytes([body[place], body[place + 1]]);
         let steps = |place: usize, count: u8| -> Vec<Step> {
-            (0..count as usize)
-                .map(|i| step(body[place + 3 * i], number(place + 3 * i + 1)))
+            body[place..][..step_width(version) * count as usize]
+                .chunks(step_width(version))
+                .map(|field| field.split_at(label_width(version)))
+                .map(|(label, test)| step(label_of(label), label_of(test)))
                 .collect()
         };
         match body[0] {
@@ -81,7 +84,7 @@ impl Entry {
             4 => Entry::Way(steps(2, body[1])),
             kind => {
                 let w = steps(3, body[1]);
-                let v = steps(3 + 3 * w.len(), body[2]);
+                let v = steps(3 + step_width(version) * w.len(), body[2]);
                 match kind {
                     5 => Entry::Same(w, v),
                     _ => Entry::Differ(w, v),
@@ -90,16 +93,25 @@ impl Entry {
         }
     }
 
-    /// The entry with its count byte.
-    pub fn bytes(&self) -> Vec<u8> {
-        counted(&self.body())
+    /// The entry with its count byte, in a version that has the labels.
+    pub fn bytes(&self, version: u8) -> Vec<u8> {
+        counted(&self.body(version))
     }
 
     /// The entry with other numbers.
     pub fn renamed(&self, number: impl Fn(u16) -> u16) -> Entry {
-        let way = |steps: &[Step]| {
-            let renamed = |s: &Step| step(s.label, number(s.test));
-            steps.iter().map(renamed).collect()
+        self.remade(number, |label| label)
+    }
+
+    /// The entry with other labels.
+    pub fn relabelled(&self, label: impl FnMut(u16) -> u16) -> Entry {
+        self.remade(|number| number, label)
+    }
+
+    fn remade(&self, number: impl Fn(u16) -> u16, mut label: impl FnMut(u16) -> u16) -> Entry {
+        let mut way = |steps: &[Step]| {
+            let remade = |s: &Step| step(label(s.label), number(s.test));
+            steps.iter().map(remade).collect()
         };
         match self {
             Entry::True => Entry::True,
@@ -111,11 +123,21 @@ impl Entry {
             Entry::Differ(w, v) => Entry::Differ(way(w), way(v)),
         }
     }
+
+    /// The steps of its ways.
+    pub fn steps(&self) -> impl Iterator<Item = &Step> {
+        let (w, v) = match self {
+            Entry::Way(w) => (&w[..], &[][..]),
+            Entry::Same(w, v) | Entry::Differ(w, v) => (&w[..], &v[..]),
+            _ => Default::default(),
+        };
+        w.iter().chain(v)
+    }
 }
 
-fn push_steps(body: &mut Vec<u8>, steps: &[Step]) {
+fn push_steps(body: &mut Vec<u8>, version: u8, steps: &[Step]) {
     for step in steps {
-        body.push(step.label);
+        body.extend(label_bytes(version, step.label));
         body.extend(step.test.to_be_bytes());
     }
 }
@@ -126,8 +148,8 @@ pub fn counted(body: &[u8]) -> Vec<u8> {
 }
 
 /// The bytes of a sheet with these header fields, of entries that are bytes already.
-pub fn sheet_bytes(bound: u8, q: u16, entries: &[Vec<u8>]) -> Vec<u8> {
-    let mut bytes = vec![0, 0, 0, 0, 1, bound];
+pub fn sheet_bytes(version: u8, bound: u8, q: u16, entries: &[Vec<u8>]) -> Vec<u8> {
+    let mut bytes = vec![0, 0, 0, 0, version, bound];
     bytes.extend(q.to_be_bytes());
     bytes.extend(entries.iter().flatten());
     set_length(&mut bytes);
@@ -135,15 +157,34 @@ pub fn sheet_bytes(bound: u8, q: u16, entries: &[Vec<u8>]) -> Vec<u8> {
 }
 
 impl Sheet {
-    /// The bytes of these entries, whether or not a check would accept them.
-    pub fn bytes(&self) -> Vec<u8> {
-        let entries: Vec<Vec<u8>> = self.entries.iter().map(Entry::bytes).collect();
-        sheet_bytes(self.bound, self.entries.len() as u16, &entries)
+    /// The bytes of these entries in a version that has their labels, whether or not a check would accept them.
+    pub fn bytes(&self, version: u8) -> Vec<u8> {
+        let entries = self.entry_bytes(version);
+        sheet_bytes(version, self.bound, self.entries.len() as u16, &entries)
+    }
+
+    /// The bytes in any version that has the labels.
+    pub fn any_bytes(&self, random: &mut Random) -> Vec<u8> {
+        self.bytes(any_version(random, self.labels()))
+    }
+
+    /// The labels of the steps.
+    pub fn labels(&self) -> impl Iterator<Item = u16> + '_ {
+        self.entries
+            .iter()
+            .flat_map(|entry| entry.steps().map(|step| step.label))
+    }
+
+    /// The bytes of each entry, in a version that has the labels.
+    pub fn entry_bytes(&self, version: u8) -> Vec<Vec<u8>> {
+        let entries = self.entries.iter();
+        entries.map(|entry| entry.bytes(version)).collect()
     }
 
     /// The sheet that these bytes hold, which a check accepts.
     pub fn of_bytes(bytes: &[u8]) -> Sheet {
-        let read = |&start: &usize| Entry::of_body(&bytes[start + 1..][..bytes[start] as usize]);
+        let body = |start: usize| &bytes[start + 1..][..bytes[start] as usize];
+        let read = |&start: &usize| Entry::of_body(bytes[4], body(start));
         Sheet {
             bound: bytes[5],
             entries: entry_starts(bytes).iter().map(read).collect(),
@@ -170,10 +211,10 @@ pub fn random_number(random: &mut Random, number: usize) -> u16 {
     random.below(number) as u16
 }
 
-/// Steps with labels below `labels` (1 to 256) and tests before entry `number`, which is not 0.
+/// Steps with labels below `labels` (1 to 65,536) and tests before entry `number`, which is not 0.
 pub fn random_steps(random: &mut Random, number: usize, count: usize, labels: usize) -> Vec<Step> {
     (0..count)
-        .map(|_| step(random.below(labels) as u8, random_number(random, number)))
+        .map(|_| step(random.below(labels) as u16, random_number(random, number)))
         .collect()
 }
 

@@ -4,6 +4,7 @@ use crate::expected::Expected;
 use crate::reading::read;
 use crate::support::random::Random;
 use crate::support::sheets::{random_sheet, step, Entry, Step};
+use crate::support::versions::VERSIONS;
 use crate::tally::Tally;
 use std::collections::{HashMap, HashSet};
 
@@ -19,8 +20,8 @@ fn every_small(tally: &mut Tally) {
     let first = [vec![Entry::True], over(1)].concat();
     let mut texts = HashSet::from(["<.>".to_string()]);
     // Each is an entry of its own over the first ones, so no two are one question.
-    for some in over(first.len() as u16).chunks(100) {
-        let expected = Expected::of_entries([&first, some].concat());
+    for (turn, some) in over(first.len() as u16).chunks(100).enumerate() {
+        let expected = Expected::of_entries(VERSIONS[turn % 2], [&first, some].concat());
         for entry in first.len()..expected.entries.len() {
             let text = tally.exactly(&expected, entry);
             assert!(texts.insert(text), "entry {entry}");
@@ -63,7 +64,7 @@ fn random_sheets(tally: &mut Tally, random: &mut Random) {
         let (bound, entries) = (random.between(0, 2) as u8, random.between(10, 40));
         let longest = random.between(0, 2);
         let sheet = random_sheet(random, bound, entries, longest, 2);
-        let expected = Expected::of_bytes(sheet.bytes());
+        let expected = Expected::of_bytes(sheet.any_bytes(random));
         let mut first_with = HashMap::new();
         for (number, first) in first_alike(&sheet.entries).into_iter().enumerate() {
             if let Some(text) = tally.entry(&expected, number) {
@@ -85,7 +86,7 @@ fn first_alike(entries: &[Entry]) -> Vec<usize> {
             Entry::True => Entry::Way(vec![]),
             _ => entry.renamed(|a| firsts[a as usize] as u16),
         };
-        firsts.push(*seen.entry(entry.body()).or_insert(number));
+        firsts.push(*seen.entry(entry.body(2)).or_insert(number));
     }
     firsts
 }
@@ -94,8 +95,9 @@ fn first_alike(entries: &[Entry]) -> Vec<usize> {
 fn damaged_texts(tally: &mut Tally, random: &mut Random) {
     let mut read_still = 0;
     for _ in 0..300 {
-        let sheet = random_sheet(random, 2, 6, 2, 30);
-        let expected = Expected::of_bytes(sheet.bytes());
+        let labels = random.pick(&[30, 300, 65_536]);
+        let sheet = random_sheet(random, 2, 6, 2, labels);
+        let expected = Expected::of_bytes(sheet.any_bytes(random));
         let text = tally.exactly(&expected, 5).into_bytes();
         for _ in 0..40 {
             let mut damaged = text.clone();

@@ -4,6 +4,7 @@ use crate::question::{spelled, Question};
 use crate::support::checks::check_sheet;
 use crate::support::measures::named;
 use crate::support::outcome::{of_length, refused, Outcome, CALL};
+use crate::support::random::Random;
 use crate::support::sheets::{Entry, Sheet, Step};
 use std::rc::Rc;
 
@@ -46,9 +47,14 @@ impl Expected {
         }
     }
 
-    /// Of a sheet of these entries, with the largest bound.
-    pub fn of_entries(entries: Vec<Entry>) -> Expected {
-        Expected::of_bytes(Sheet { bound: 4, entries }.bytes())
+    /// Of a sheet of these entries, with the largest bound, in a version that has the labels.
+    pub fn of_entries(version: u8, entries: Vec<Entry>) -> Expected {
+        Expected::of_bytes(Sheet { bound: 4, entries }.bytes(version))
+    }
+
+    /// The same, in any version that has the labels.
+    pub fn of_any(random: &mut Random, entries: Vec<Entry>) -> Expected {
+        Expected::of_bytes(Sheet { bound: 4, entries }.any_bytes(random))
     }
 
     /// "A second operation gives the exact length without writing." "Both come after the sheet's refusals and 25."

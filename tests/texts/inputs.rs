@@ -3,6 +3,7 @@
 use crate::expected::Expected;
 use crate::support::random::Random;
 use crate::support::sheets::{random_sheet, step, Entry};
+use crate::support::versions::{all_labels, VERSIONS};
 use crate::tally::Tally;
 
 const MOST_ENTRIES: usize = 16_385;
@@ -19,10 +20,32 @@ pub fn all(tally: &mut Tally) {
     most_entries(tally, random);
 }
 
-/// Texts found by hand: each form of the request, alone and in others.
+/// Texts found by hand, which are the same in both versions.
 fn by_hand(tally: &mut Tally) {
+    let (entries, texts): (Vec<Entry>, Vec<&str>) = forms().into_iter().unzip();
+    for version in VERSIONS {
+        let expected = Expected::of_entries(version, entries.clone());
+        for (number, text) in texts.iter().enumerate() {
+            assert_eq!(tally.entry(&expected, number).as_deref(), Some(*text));
+        }
+    }
+    // Labels of two bytes.
+    let entries = vec![
+        Entry::True,
+        Entry::Way(vec![step(256, 0), step(65_535, 0)]),
+        Entry::Differ(vec![step(999, 1)], vec![step(1_000, 0), step(10_000, 0)]),
+    ];
+    let expected = Expected::of_entries(2, entries);
+    let way = "</256[<.>]/65535[<.>]>";
+    let differ = format!("</999[{way}]!=/1000[<.>]/10000[<.>]>");
+    assert_eq!(tally.entry(&expected, 1).as_deref(), Some(way));
+    assert_eq!(tally.entry(&expected, 2), Some(differ));
+}
+
+/// Each form of the request, alone and in others, with its text.
+fn forms() -> Vec<(Entry, &'static str)> {
     let one = |label, test| vec![step(label, test)];
-    let entries = [
+    vec![
         (Entry::True, "<.>"),
         (Entry::Differ(vec![], one(1, 0)), "<.!=/1[<.>]>"), // document 01, P1
         (Entry::Not(1), "!(<.!=/1[<.>]>)"),
@@ -49,36 +72,35 @@ fn by_hand(tally: &mut Tally) {
         (Entry::Not(16), "!(((<.=.>|<.!=.>)&(<.=.>|<.!=.>)))"),
         (Entry::True, "<.>"),
         (Entry::Not(18), "!(<.>)"),
-    ];
-    let expected = Expected::of_entries(entries.iter().map(|(entry, _)| entry.clone()).collect());
-    for (number, (_, text)) in entries.iter().enumerate() {
-        assert_eq!(tally.entry(&expected, number).as_deref(), Some(*text));
-    }
+    ]
 }
 
 /// Every label, in a way and in both ways of a same.
 fn each_label(tally: &mut Tally) {
-    for label in 0..=255 {
-        let (w, v) = (vec![step(label, 0)], vec![step(255 - label, 1)]);
-        let expected =
-            Expected::of_entries(vec![Entry::True, Entry::Way(w.clone()), Entry::Same(w, v)]);
-        let text = format!("</{label}[<.>]>");
-        assert_eq!(tally.entry(&expected, 1), Some(text.clone()));
-        let text = format!("</{label}[<.>]=/{}[{text}]>", 255 - label);
-        assert_eq!(tally.entry(&expected, 2), Some(text));
+    for version in VERSIONS {
+        let last = (all_labels(version) - 1) as u16;
+        for label in 0..=last {
+            let (w, v) = (vec![step(label, 0)], vec![step(last - label, 1)]);
+            let entries = vec![Entry::True, Entry::Way(w.clone()), Entry::Same(w, v)];
+            let expected = Expected::of_entries(version, entries);
+            let text = format!("</{label}[<.>]>");
+            assert_eq!(tally.exactly(&expected, 1), text);
+            let text = format!("</{label}[<.>]=/{}[{text}]>", last - label);
+            assert_eq!(tally.exactly(&expected, 2), text);
+        }
     }
 }
 
-/// How many labels there are: of one digit, up to two, or up to three.
+/// How many labels there are: of one digit, up to two, or up to five.
 fn any_labels(random: &mut Random) -> usize {
-    random.pick(&[1, 3, 10, 12, 100, 102, 256])
+    random.pick(&[1, 3, 10, 12, 100, 102, 256, 1_000, 1_002, 10_002, 65_536])
 }
 
 /// Ways of every number of steps, and two ways of every two numbers of steps.
 fn each_count(tally: &mut Tally, random: &mut Random) {
     let steps = |random: &mut Random, count: usize| {
         let labels = any_labels(random);
-        let mut any = || step(random.below(labels) as u8, random.below(3) as u16);
+        let mut any = || step(random.below(labels) as u16, random.below(3) as u16);
         (0..count).map(|_| any()).collect::<Vec<_>>()
     };
     let mut entries = vec![Entry::True, Entry::Not(0), Entry::Or(0, 1)];
@@ -89,7 +111,7 @@ fn each_count(tally: &mut Tally, random: &mut Random) {
         entries.push(Entry::Same(steps(random, j), steps(random, k)));
         entries.push(Entry::Differ(steps(random, j), steps(random, k)));
     }
-    let expected = Expected::of_entries(entries);
+    let expected = Expected::of_any(random, entries);
     for entry in 0..expected.entries.len() {
         tally.entry(&expected, entry);
     }
@@ -99,7 +121,7 @@ fn each_count(tally: &mut Tally, random: &mut Random) {
 fn ask(tally: &mut Tally, random: &mut Random, entries: usize, longest: usize) {
     let (bound, labels) = (random.between(0, 4) as u8, any_labels(random));
     let sheet = random_sheet(random, bound, entries, longest, labels);
-    let expected = Expected::of_bytes(sheet.bytes());
+    let expected = Expected::of_bytes(sheet.any_bytes(random));
     for entry in 0..entries {
         tally.entry(&expected, entry);
     }
@@ -132,18 +154,19 @@ fn shared(tally: &mut Tally, random: &mut Random) {
 
 /// The most entries, each as long as it can be but for the first: the first and the last ones.
 fn most_entries(tally: &mut Tally, random: &mut Random) {
-    let named: [fn(&mut Random, usize) -> usize; 3] = [
-        |_, _| 0,
-        |_, number| number - 1,
-        |random, number| random.below(number.min(3)),
+    let named: [(u8, fn(&mut Random, usize) -> usize); 3] = [
+        (1, |_, _| 0),
+        (2, |_, number| number - 1),
+        (2, |random, number| random.below(number.min(3))),
     ];
-    for named in named {
+    for (version, named) in named {
+        let labels = all_labels(version);
         let mut entries = vec![Entry::True];
         for number in 1..MOST_ENTRIES {
-            let mut any = || step(random.byte(), named(random, number) as u16);
+            let mut any = || step(random.below(labels) as u16, named(random, number) as u16);
             entries.push(Entry::Way((0..MOST_STEPS).map(|_| any()).collect()));
         }
-        let expected = Expected::of_entries(entries);
+        let expected = Expected::of_entries(version, entries);
         for entry in [0, 1, 2, 3, 1_025, 16_383, 16_384, 16_385] {
             tally.entry(&expected, entry);
         }

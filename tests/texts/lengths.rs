@@ -5,6 +5,7 @@ use crate::references;
 use crate::support::lend_zeros;
 use crate::support::random::Random;
 use crate::support::sheets::{step, Entry, Step};
+use crate::support::versions::{all_labels, VERSIONS};
 use crate::tally::Tally;
 
 pub fn all(tally: &mut Tally) {
@@ -20,11 +21,11 @@ pub fn all(tally: &mut Tally) {
 fn of_length(random: &mut Random, length: u128) -> Expected {
     let mut entries = vec![Entry::True];
     add_of_length(random, &mut entries, length);
-    expected_of_length(entries, length)
+    expected_of_length(random, entries, length)
 }
 
-fn expected_of_length(entries: Vec<Entry>, length: u128) -> Expected {
-    let expected = Expected::of_entries(entries);
+fn expected_of_length(random: &mut Random, entries: Vec<Entry>, length: u128) -> Expected {
+    let expected = Expected::of_any(random, entries);
     assert_eq!(expected.lengths.last(), Some(&length));
     expected
 }
@@ -63,11 +64,13 @@ fn add_of_parts(random: &mut Random, entries: &mut Vec<Entry>, length: u128) {
     entries.push(form.renamed(|_| part));
     while rest > 0 {
         let last = entries.len() as u16 - 1;
-        let one = |label| Entry::Way(vec![step(label, last)]);
+        let one = |label: usize| Entry::Way(vec![step(label as u16, last)]);
         let (around, more) = match rest % 3 {
-            1 => (one(random.between(10, 99) as u8), 7),
-            2 => (one(random.between(100, 255) as u8), 8),
-            _ if rest >= 6 && random.one_in(2) => (one(random.below(10) as u8), 6),
+            1 if rest >= 10 && random.one_in(4) => (one(random.between(10_000, 65_535)), 10),
+            1 => (one(random.between(10, 99)), 7),
+            2 => (one(random.between(100, 999)), 8),
+            _ if rest >= 9 && random.one_in(4) => (one(random.between(1_000, 9_999)), 9),
+            _ if rest >= 6 && random.one_in(2) => (one(random.below(10)), 6),
             _ => (Entry::Not(last), 3),
         };
         entries.push(around);
@@ -77,9 +80,11 @@ fn add_of_parts(random: &mut Random, entries: &mut Vec<Entry>, length: u128) {
 
 /// An entry that names entry 0 at two places or more.
 fn any_form(random: &mut Random) -> Entry {
+    let labels = random.pick(&VERSIONS.map(all_labels));
     let steps = |random: &mut Random, most: usize| -> Vec<Step> {
         let count = random.between(1, most);
-        (0..count).map(|_| step(random.byte(), 0)).collect()
+        let mut label = || random.below(labels) as u16;
+        (0..count).map(|_| step(label(), 0)).collect()
     };
     match random.below(5) {
         0 => Entry::And(0, 0),
@@ -119,13 +124,13 @@ fn around_powers(tally: &mut Tally, random: &mut Random) {
 fn by_each_reference(tally: &mut Tally, random: &mut Random) {
     for reference in references::all() {
         for length in MOST_LENGTH - 1..=MOST_LENGTH + 2 {
-            let label = random.pick(&[7, 77, 177]);
+            let label = random.pick(&[7, 77, 177, 1_777, 17_777]);
             let named = |part: u128| move |number| if number == 0 { 3 } else { part };
             let around = entry_length(&reference.entry(1, label), named(0));
             let mut entries = vec![Entry::True];
             let part = add_of_length(random, &mut entries, length - around);
             entries.push(reference.entry(part, label));
-            ask_last(tally, &expected_of_length(entries, length));
+            ask_last(tally, &expected_of_length(random, entries, length));
         }
     }
 }

@@ -18,7 +18,7 @@ pub enum Question {
 
 /// The label of each step, and the question that is its test.
 #[derive(PartialEq, Eq, Debug)]
-pub struct Way(pub Vec<(u8, Rc<Question>)>);
+pub struct Way(pub Vec<(u16, Rc<Question>)>);
 
 /// The question of an entry of an accepted sheet. Those that it names are spelled once, and shared.
 pub fn spelled(entries: &[Entry], number: usize) -> Rc<Question> {

@@ -76,15 +76,15 @@ impl Reader<'_> {
         Some(Way(steps))
     }
 
-    fn step(&mut self) -> Option<(u8, Rc<Question>)> {
+    fn step(&mut self) -> Option<(u16, Rc<Question>)> {
         self.must_come(b'/')?;
         let label = self.label()?;
         self.must_come(b'[')?;
         Some((label, self.question_before(b']')?))
     }
 
-    /// A number of 0 to 255 in base ten, without zeros before it.
-    fn label(&mut self) -> Option<u8> {
+    /// A number of 0 to 65,535 in base ten, without zeros before it.
+    fn label(&mut self) -> Option<u16> {
         let digits = self.rest.iter().take_while(|byte| byte.is_ascii_digit());
         let (label, rest) = self.rest.split_at(digits.count());
         self.rest = rest;

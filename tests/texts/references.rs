@@ -40,7 +40,7 @@ pub fn all() -> Vec<Reference> {
 
 impl Reference {
     /// The entry, with one label for all steps.
-    pub fn entry(self, number: u16, label: u8) -> Entry {
+    pub fn entry(self, number: u16, label: u16) -> Entry {
         let steps = |count: usize, place: usize| {
             let mut steps = vec![step(label, 0); count];
             steps[place].test = number;

@@ -8,13 +8,16 @@ use crate::support::outcome::{refused, CALL, SHEET};
 use crate::support::random::Random;
 use crate::support::refusals::{beyond, change_byte, or_none, sheet_refused};
 use crate::support::sheets::{counted, sheet_bytes, Entry};
+use crate::support::versions::VERSIONS;
 use crate::tally::Tally;
 
 pub fn all(tally: &mut Tally) {
     let random = &mut Random::new(12);
     of_sheets(tally, random);
     entries(tally, random);
-    order(tally);
+    for version in VERSIONS {
+        order(tally, version);
+    }
     damaged(tally, random);
 }
 
@@ -44,21 +47,22 @@ fn entries(tally: &mut Tally, random: &mut Random) {
 }
 
 /// The sheet's refusals, 25, 28, 29 and 30, in this order: of each two that apply the earlier is given.
-fn order(tally: &mut Tally) {
+fn order(tally: &mut Tally, version: u8) {
     // From entry 30 on 29 applies, from entry 1,025 on 28 as well.
-    let doubled = chain(1_099, |number| Entry::And(number, number));
+    let doubled = chain(version, 1_099, |number| Entry::And(number, number));
     let q = doubled.entries.len();
     let with = |number: usize, entry: Vec<u8>| {
-        let mut entries: Vec<Vec<u8>> = doubled.entries.iter().map(Entry::bytes).collect();
+        let entries = doubled.entries.iter();
+        let mut entries: Vec<Vec<u8>> = entries.map(|entry| entry.bytes(version)).collect();
         entries[number] = entry;
-        sheet_bytes(4, q as u16, &entries)
+        sheet_bytes(version, 4, q as u16, &entries)
     };
     let with_last = |body: &[u8]| with(q - 1, counted(body));
     let with_byte = |place, value| changed(&doubled.bytes, &[(place, value)]);
     for (refusal, bytes) in [
         (1, doubled.bytes[..7].to_vec()),
         (2, with_byte(0, 1)),
-        (3, with_byte(4, 2)),
+        (3, with_byte(4, 3)),
         (8, with_byte(5, 5)),
         (9, with(q - 1, vec![0])),
         (10, with_last(&[7])),

@@ -4,7 +4,7 @@ use crate::expected::Expected;
 use crate::plain;
 use crate::reading::read;
 use crate::support::call::Call;
-use crate::support::counts::{Counts, OF_SHEET};
+use crate::support::counts::{Counts, Versions, OF_SHEET};
 use crate::support::lent::Lent;
 use crate::support::library;
 use crate::support::outcome::{CALL, SHEET};
@@ -16,6 +16,7 @@ const MOST_WRITTEN: usize = 1 << 20;
 pub struct Tally {
     length: Counts,
     text: Counts,
+    versions: Versions,
     turn: usize,
     random: Random,
     read_back: usize,
@@ -27,6 +28,7 @@ impl Tally {
         Tally {
             length: Counts::new("question length"),
             text: Counts::new("question text"),
+            versions: Versions::default(),
             turn: 0,
             random: Random::new(7),
             read_back: 0,
@@ -117,6 +119,7 @@ impl Tally {
                 call.fail("bytes after the text, or beside the room, were changed");
             }
             self.longest = self.longest.max(text.len());
+            self.versions.count(&[&expected.bytes]);
         }
         self.text.count(answer, "written");
         self.turn += 1;
@@ -162,6 +165,7 @@ impl Tally {
             &["written"],
             &[(SHEET, &OF_SHEET), (CALL, &[25, 28, 29, 30])],
         );
+        self.versions.report("question text");
         println!("  read back               {:>8}", self.read_back);
         println!("  bytes of the longest    {:>8}", self.longest);
         length + text

@@ -5,20 +5,21 @@ use mathlib.Core.Bool.{Bool, true, false, not, So, cond, _||_}
 use mathlib.Core.List.{List, []}
 use mathlib.Core.Logic.{⊎-elim}
 use Prim.Native.Nat.{ℕ, zero, suc, _+_, _-_, _*_, _≤_, _<_}
-use native.Mathlib.Nat.{mul-le-mul, mul-le-mul-left, mul-le-mul-right, eq-or-lt-of-le}
+use native.Mathlib.Nat.{mul-le-mul-left, mul-le-mul-right, eq-or-lt-of-le}
 use native.Mathlib.Numerals.{add-one}
 use native.Mathlib.Omega.{arith}
 use borrow.Author.Tests.{lt-ltb, le-ltb, le-leb, lt-leb, eq-eqb, ne-eqb}
 use lib.Dec.{ltb}
 use lib.ListN.{length, take, drop}
 use Rattle.fields.specs.Fields.{field}
+use Rattle.fields.specs.Label.{labelWidth}
 use Rattle.outcome.specs.Outcome.{accepted, refused, code, ofLeftBook, ofCall}
 use Rattle.theory.specs.Graph.{link}
 use Rattle.outcome.specs.Refusals.{firstOf}
 use Rattle.outcome.specs.RefusalLaws.{first-none, first-some}
-use Rattle.book.specs.Book.{lengthOf, versionOf, cellsOf, linksOf, recordingPlace, labelWidth, linkWidth, linkStart, linkPlace, linkIn, linkAt, countsRefusal, headRefusal, below, precedes, rises, linkRefusal, linksRefusal, bookRefusal, bookAnswer, bookOutcome, asLink}
-use Rattle.book.specs.AcceptedLaws.{headed, link-room, book-sizes, answer-accepted, answer-refused}
-use Rattle.book.specs.OutgoingLaws.{before-is, first-before, first-rises, part-room}
+use Rattle.book.specs.Book.{lengthOf, versionOf, mostVersion, cellsOf, linksOf, recordingPlace, linkWidth, linkStart, linkPlace, linkIn, linkAt, countsRefusal, headRefusal, below, precedes, rises, linkRefusal, linksRefusal, bookRefusal, bookAnswer, bookOutcome, asLink}
+use Rattle.book.specs.AcceptedLaws.{headed, start-most, link-room, book-sizes, book-long, answer-accepted, answer-refused}
+use Rattle.book.specs.OutgoingLaws.{before-is, first-before, first-rises, part-accepted, part-room}
 use Rattle.book.specs.BookLinks.{linksBefore, linksAfter, firstLink, RangeOut, partFrom, linksAnswer, partOf, linksPart, linksOutcome}
 use Rattle.book.specs.declared.BookAnswer.{BookAnswer}
 use Rattle.book.specs.declared.BookAnswer.the-variants.{Accepted, Refused}
@@ -27,16 +28,19 @@ use Rattle.book.specs.declared.LinksAnswer.the-variants.{Part, BookRefus
 use Rattle.book.specs.declared.BookLink.{BookLink}
 
 -- ---- places
--- a link takes at most 4 bytes
-pub start-most : (w k : ℕ) → w ≤ 2 → (2 + w) * k ≤ 4 * k
-start-most w k h = mul-le-mul-right k (omega arith)
+pub width-is : (s : List ℕ) (v w : ℕ) → v ≡ versionOf s → w ≡ labelWidth v → 2 + w ≡ linkWidth s
+width-is s v w d e = rw (← d) (omega arith)
 
-module _ (s : List ℕ) (n w k : ℕ) (dw : w ≡ labelWidth s) where
-  pub start-is : 8 + 4 * n + (2 + w) * k ≡ linkStart s n k
+-- a link takes at most 4 bytes
+pub links-size : (w k : ℕ) → w ≤ 4 → w * k ≤ 4 * k
+links-size w k h = mul-le-mul-right k h
+
+module _ (s : List ℕ) (n w k : ℕ) (dw : w ≡ linkWidth s) where
+  pub start-is : 8 + 4 * n + w * k ≡ linkStart s n k
   start-is = rw dw
 
-  pub start-small : w ≤ 2 → 8 + 4 * n + (2 + w) * k ≤ 8 + 4 * n + 4 * k
-  start-small h = omega (arith, start-most w k h)
+  pub start-small : 8 + 4 * n + w * k ≤ 8 + 4 * n + 4 * k
+  start-small = rw dw (start-most s n k)
 
 -- ---- the header
 pub head-short : (s : List ℕ) → length s < 8 → 1 ≡ headRefusal s
@@ -49,13 +53,18 @@ module _ (s : List ℕ) (l : ℕ) (d : l ≡ lengthOf s) (a : 8 ≤ length s) wh
   head-whole b = simp (le-ltb (length s) 8 a, ne-eqb (lengthOf s) (length s) (λ p. b (d ∙ p)))
 
   module _ (b : l ≡ length s) (v : ℕ) (dv : v ≡ versionOf s) where
-    pub head-version : (v ≡ 1 → ⊥) → 3 ≡ headRefusal s
+    pub head-unversioned : v < 1 → 3 ≡ headRefusal s
     unfolding headRefusal
-    head-version f = simp (le-ltb (length s) 8 a, eq-eqb (lengthOf s) (length s) (sym d ∙ b), ← dv, ne-eqb v 1 f)
+    head-unversioned f = simp (le-ltb (length s) 8 a, eq-eqb (lengthOf s) (length s) (sym d ∙ b), ← dv, lt-ltb v 1 f)
 
-    pub head-counts : v ≡ 1 → (r : ℕ) → r ≡ countsRefusal s → r ≡ headRefusal s
-    unfolding headRefusal
-    head-counts e r dr = simp (le-ltb (length s) 8 a, eq-eqb (lengthOf s) (length s) (sym d ∙ b), ← dv, eq-eqb v 1 e) dr
+    module _ (f : 1 ≤ v) where
+      pub head-newer : mostVersion < v → 3 ≡ headRefusal s
+      unfolding headRefusal
+      head-newer g = simp (le-ltb (length s) 8 a, eq-eqb (lengthOf s) (length s) (sym d ∙ b), ← dv, le-ltb v 1 f, lt-ltb mostVersion v g)
+
+      pub head-counts : v ≤ mostVersion → (r : ℕ) → r ≡ countsRefusal s → r ≡ headRefusal s
+      unfolding headRefusal
+      head-counts g r dr = simp (le-ltb (length s) 8 a, eq-eqb (lengthOf s) (length s) (sym d ∙ b), ← dv, le-ltb v 1 f, le-ltb mostVersion v g) dr
 
 -- ---- its counts
 module _ (s : List ℕ) (n : ℕ) (dn : n ≡ cellsOf s) where
@@ -94,17 +103,18 @@ module _ (s : List ℕ) (k at : ℕ) (d : at ≡ linkPlace s k) (z : headRefusal
   pub from-room : at + 1 ≤ length s
   from-room = omega (arith, link-room s (headed s z) k h)
 
-  pub label-room : at + 1 + labelWidth s ≤ length s
-  label-room = omega (arith, link-room s (headed s z) k h)
+  module _ (v : ℕ) (dv : v ≡ versionOf s) where
+    pub label-room : at + 1 + labelWidth v ≤ length s
+    label-room = rw dv (omega (arith, link-room s (headed s z) k h))
 
-  module _ (width : ℕ) (dw : width ≡ labelWidth s) where
-    pub to-room : at + 1 + width + 1 ≤ length s
-    to-room = omega (arith, link-room s (headed s z) k h)
+    module _ (width : ℕ) (dw : width ≡ labelWidth v) where
+      pub to-room : at + 1 + width + 1 ≤ length s
+      to-room = rw (dw, dv) (omega (arith, link-room s (headed s z) k h))
 
-    pub link-read : (from label to : ℕ) → from ≡ field 1 s at → label ≡ field (labelWidth s) s (at + 1) → to ≡ field 1 s (at + 1 + width)
-        → link from label to ≡ linkAt s k
-    unfolding linkAt linkIn
-    link-read from label to p q r = rw (p, q, r, d, dw)
+      pub link-read : (from label to : ℕ) → from ≡ field 1 s at → label ≡ field (labelWidth v) s (at + 1) → to ≡ field 1 s (at + 1 + width)
+          → link from label to ≡ linkAt s k
+      unfolding linkAt linkIn
+      link-read from label to p q r = rw (p, q, r, d, dw, dv)
 
 pub head-long : (s : List ℕ) → headRefusal s ≡ 0 → 8 ≤ length s
 head-long s z = headed s z .long
@@ -259,7 +269,7 @@ start-room s n e k at l h d = omega (arith, mul-le-mul-left (linkWidth s) h)
 module _ (s : List ℕ) (n e x k : ℕ) (i : Lower s n x k) where
   first-is : k ≤ e → (k < e → x ≤ field 1 s (linkStart s n k)) → k ≡ linksBefore x (linksAfter s n e)
   unfolding linkIn
-  first-is h f = sym (before-is x e (λ j. linkIn (labelWidth s) s (linkStart s n j)) k (record { most = h; below = i .each; stop = f }))
+  first-is h f = sym (before-is x e (λ j. linkIn (labelWidth (versionOf s)) s (linkStart s n j)) k (record { most = h; below = i .each; stop = f }))
 
   pub first-end : e ≤ k → k ≤ e → k ≡ linksBefore x (linksAfter s n e)
   first-end h l = first-is l (λ m. absurd (omega arith))
@@ -306,9 +316,6 @@ module _ (s : List ℕ) (k count : ℕ) where
       go (suc count) f = rw d
 
 -- ---- what an answer says, once it is known
-pub product-fits : (w n : ℕ) → w ≤ 2 → n < 65536 → (2 + w) * n < 4 * 65536 + 1
-product-fits w n h l = let f : 2 + w ≤ 4 = omega arith in let g : n ≤ 65536 = omega arith in omega (arith, mul-le-mul f g)
-
 module _ {a : BookAnswer} (s : List ℕ) (d : a ≡ bookAnswer s) where
   pub told-counts : (n e v : ℕ) → a ≡ Accepted n e → v ≡ code (accepted n e) → v ≡ code (bookOutcome (bookAnswer s))
   told-counts n e v p q = rw (← d, p) q
@@ -334,10 +341,14 @@ module _ {a : LinksAnswer} (s : List ℕ) (x : ℕ) (d : a ≡ linksAnswer s x) 
   unfolding partOf
   part-cell p = rw (← d, p)
 
-  module _ (n start w : ℕ) (p : a ≡ Part n start) (dw : w ≡ labelWidth s) where
-    pub part-end : start + (2 + w) * n ≤ length s
-    part-end = rw dw (part-room s x n start (sym d ∙ p))
+  module _ (n start : ℕ) (p : a ≡ Part n start) where
+    pub part-long : 8 ≤ length s
+    part-long = book-long s (part-accepted s x n start (sym d ∙ p))
 
-    pub part-bytes : take (start + (2 + w) * n - start) (drop start s) ≡ linksPart s x
-    unfolding partOf
-    part-bytes = let e : start + (2 + w) * n - start ≡ (2 + w) * n = omega arith in rw (← d, p, e, dw)
+    module _ (w : ℕ) (dw : w ≡ linkWidth s) where
+      pub part-end : start + w * n ≤ length s
+      part-end = rw dw (part-room s x n start (sym d ∙ p))
+
+      pub part-bytes : take (start + w * n - start) (drop start s) ≡ linksPart s x
+      unfolding partOf
+      part-bytes = let e : start + w * n - start ≡ w * n = omega arith in rw (← d, p, e, dw)

@@ -1,20 +1,21 @@
 -- What an accepted book is: its sizes, its links in order, and its graph.
 use mathlib.Core.Bool.{Bool, true, false, not, So, _||_}
 use mathlib.Core.Logic.{_↔_, _⊎_, inl, inr, ⊎-elim}
-use mathlib.Core.Path.{_≡_, refl, sym, _∙_}
+use mathlib.Core.Path.{_≡_, refl, sym, ap₂, _∙_}
 use mathlib.Core.List.{List}
-use Prim.Native.Nat.{ℕ, zero, suc, _+_, _≤_, _<_, suc-le-suc}
-use native.Mathlib.Nat.{mul-le-mul-left, le-of-suc-le-suc, eq-or-lt-of-le, le-refl}
+use Prim.Native.Nat.{ℕ, zero, suc, _+_, _*_, _≤_, _<_, suc-le-suc}
+use native.Mathlib.Nat.{mul-le-mul-left, mul-le-mul-right, le-of-suc-le-suc, eq-or-lt-of-le, le-refl}
 use native.Mathlib.Omega.{arith}
-use borrow.Author.Tests.{ltb-false, leb-false, eqb-true, eq-eqb, ne-eqb}
+use borrow.Author.Tests.{ltb-false, le-ltb, leb-false, eqb-true, eq-eqb, ne-eqb}
 use lib.Dec.{eqb, ltb, leb}
-use lib.ListN.{length}
+use lib.ListN.{length, getD}
+use Rattle.fields.specs.LabelLaws.{label-width}
 use Rattle.outcome.specs.RefusalLaws.{first-zero, passed}
-use Rattle.theory.specs.TestLaws.{and-iff, or-iff, sum-iff, eqb-iff, ltb-iff}
+use Rattle.theory.specs.TestLaws.{and-iff, or-iff, sum-iff, eqb-iff, ltb-iff, list-at}
 use Rattle.theory.specs.Search.{list}
 use Rattle.theory.specs.Graph.{Comparison, same, differ, Link, Inside, WellFormed, compared}
-use Rattle.book.specs.Book.{lengthOf, versionOf, cellsOf, linksOf, recordingAt, linkWidth, linkPlace, linkAt, countsRefusal, headRefusal, below, precedes, rises, linkRefusal, linksRefusal, bookRefusal, bookAnswer}
-use Rattle.book.specs.BookGraph.{dataValue, graphOf}
+use Rattle.book.specs.Book.{lengthOf, versionOf, mostVersion, cellsOf, linksOf, recordingAt, linkWidth, linkStart, linkPlace, linkAt, countsRefusal, headRefusal, below, precedes, rises, linkRefusal, linksRefusal, bookRefusal, bookAnswer}
+use Rattle.book.specs.BookGraph.{dataValue, bookRecordings, graphOf}
 use Rattle.book.specs.declared.BookAnswer.the-variants.{Accepted, Refused}
 
 not-false : (t : Bool) → not t ≡ false → So t
@@ -29,7 +30,8 @@ or-false false u e = (refl, e)
 pub record Headed (s : List ℕ) : Type 0 where
   pub long : 8 ≤ length s
   pub whole : lengthOf s ≡ length s
-  pub version : versionOf s ≡ 1
+  pub version : 1 ≤ versionOf s
+  pub latest : versionOf s ≤ mostVersion
   pub some : 1 ≤ cellsOf s
   pub few : cellsOf s ≤ 64
   pub most : linksOf s ≤ 512
@@ -41,23 +43,50 @@ unfolding headRefusal countsRefusal
 headed s h =
     let (long, h2) = passed (ltb (length s) 8) 0 h in
     let (whole, h3) = passed (not (eqb (lengthOf s) (length s))) 1 h2 in
-    let (version, h4) = passed (not (eqb (versionOf s) 1)) 2 h3 in
+    let (versions, h4) = passed (ltb (versionOf s) 1 || ltb mostVersion (versionOf s)) 2 h3 in
     let (counts, h5) = passed (ltb (cellsOf s) 1 || (ltb 64 (cellsOf s) || ltb 512 (linksOf s))) 3 h4 in
     let (sized, _) = passed (not (eqb (lengthOf s) (linkPlace s (linksOf s)))) 4 h5 in
+    let (version, latest) = or-false (ltb (versionOf s) 1) _ versions in
     let (some, rest) = or-false (ltb (cellsOf s) 1) _ counts in
     let (few, most) = or-false (ltb 64 (cellsOf s)) _ rest in
     let whole = eqb-true _ _ (not-false (eqb (lengthOf s) (length s)) whole) in
     record {
       long = ltb-false _ _ long;
       whole = whole;
-      version = eqb-true _ _ (not-false (eqb (versionOf s) 1) version);
+      version = ltb-false _ _ version;
+      latest = ltb-false _ _ latest;
       some = ltb-false _ _ some;
       few = ltb-false _ _ few;
       most = ltb-false _ _ most;
       sized = sym whole ∙ eqb-true _ _ (not-false (eqb (lengthOf s) (linkPlace s (linksOf s))) sized);
     }
 
+-- and what says so is not refused
+pub headed-passes : (s : List ℕ) → Headed s → headRefusal s ≡ 0
+unfolding headRefusal countsRefusal
+headed-passes s d =
+    rw (
+      le-ltb (length s) 8 (d .long),
+      eq-eqb (lengthOf s) (length s) (d .whole),
+      le-ltb (versionOf s) 1 (d .version),
+      le-ltb mostVersion (versionOf s) (d .latest),
+      le-ltb (cellsOf s) 1 (d .some),
+      le-ltb 64 (cellsOf s) (d .few),
+      le-ltb 512 (linksOf s) (d .most),
+      eq-eqb (lengthOf s) (linkPlace s (linksOf s)) (d .whole ∙ d .sized),
+    )
+
 -- ---- where the links lie
+-- a link takes at most 4 bytes
+pub start-most : (s : List ℕ) (n k : ℕ) → linkStart s n k ≤ 8 + 4 * n + 4 * k
+start-most s n k =
+    let h : linkWidth s ≤ 4 = omega (arith, label-width (versionOf s) .most) in
+    omega (arith, mul-le-mul-right k h)
+
+-- they start after the header
+pub start-long : (s : List ℕ) (n k : ℕ) → linkStart s n k ≤ length s → 8 ≤ length s
+start-long s n k h = omega arith
+
 -- each link lies whole in the book
 pub link-room : (s : List ℕ) → Headed s → (k : ℕ) → k < linksOf s → linkPlace s k + linkWidth s ≤ length s
 link-room s d k h = omega (arith, mul-le-mul-left (linkWidth s) h, d .sized)
@@ -175,11 +204,19 @@ pub book-graph : (s : List ℕ) → bookRefusal s ≡ 0 → WellFormed (graphOf 
 book-graph s r =
     record { inside = inside-list _ _ _ (λ k h. let b = book-link s r k h in (b .from, b .to)) }
 
+-- each cell has its recording
+book-recording : (s : List ℕ) (x : ℕ) → x < cellsOf s → getD (bookRecordings s) x 0 ≡ recordingAt s x
+book-recording s x h = list-at (cellsOf s) (recordingAt s) x 0 h
+
 -- two cells pass a comparison where their recordings do
-pub book-ends : (s : List ℕ) (t : Comparison) (x y : ℕ) → graphOf s .ends t x y ≡ compared dataValue t (recordingAt s x) (recordingAt s y)
+pub book-ends : (s : List ℕ) (t : Comparison) (x y : ℕ) → x < cellsOf s → y < cellsOf s
+    → graphOf s .ends t x y ≡ compared dataValue t (recordingAt s x) (recordingAt s y)
 unfolding compared
-book-ends s same x y = refl
-book-ends s differ x y = refl
+book-ends s t x y h l = through t ∙ ap₂ (compared dataValue t) (book-recording s x h) (book-recording s y l)
+  where
+    through : (t : Comparison) → graphOf s .ends t x y ≡ compared dataValue t (getD (bookRecordings s) x 0) (getD (bookRecordings s) y 0)
+    through same = refl
+    through differ = refl
 
 -- ---- the check's answer
 pub answer-accepted : (s : List ℕ) → bookRefusal s ≡ 0 → bookAnswer s ≡ Accepted (cellsOf s) (linksOf s)

@@ -1,10 +1,11 @@
--- A book's format (01, "Book bytes" and "Check a book"), over the list of its bytes.
+-- A book's format (01, "Book bytes" and "Check a book"; 02, 2026-02: "Book version 2"), over the list of its bytes.
 use mathlib.Core.Bool.{Bool, true, not, cond, _&&_, _||_}
 use mathlib.Core.List.{List}
 use Prim.Native.Nat.{ℕ, zero, suc, _+_, _*_}
 use lib.Dec.{eqb, ltb, leb}
 use lib.ListN.{length}
 use Rattle.fields.specs.Fields.{field}
+use Rattle.fields.specs.Label.{labelWidth}
 use Rattle.outcome.specs.Outcome.{Outcome, accepted, refused, ofLeftBook}
 use Rattle.outcome.specs.Refusals.{firstOf}
 use Rattle.theory.specs.Graph.{Link, link}
@@ -19,6 +20,10 @@ lengthOf s = field 4 s 0
 -- "Byte 4: version 1."
 abbrev pub versionOf : List ℕ → ℕ
 versionOf s = field 1 s 4
+
+-- 02, 2026-02: "book version 2", and "version 1 is still read". The versions are 1 up to this.
+abbrev pub mostVersion : ℕ
+mostVersion = 2
 
 -- "Byte 5: cells n, 1 to 64."
 abbrev pub cellsOf : List ℕ → ℕ
@@ -36,15 +41,11 @@ recordingPlace x = 8 + 4 * x
 unfoldable pub recordingAt : List ℕ → ℕ → ℕ
 recordingAt s x = field 4 s (recordingPlace x)
 
--- How many bytes a label takes ("label (0 to 255)").
-unfoldable pub labelWidth : List ℕ → ℕ
-labelWidth s = 1
-
--- How many bytes a link takes: "from cell, label, to cell".
+-- "e links of 3 bytes: from cell, label (0 to 255), to cell"; in version 2 "a link takes 4 bytes".
 abbrev pub linkWidth : List ℕ → ℕ
-linkWidth s = 2 + labelWidth s
+linkWidth s = 2 + labelWidth (versionOf s)
 
--- "Then e links of 3 bytes": where link k starts, after the recordings of n cells.
+-- Where link k starts, after the recordings of n cells.
 abbrev pub linkStart : List ℕ → ℕ → ℕ → ℕ
 linkStart s n k = recordingPlace n + linkWidth s * k
 
@@ -58,20 +59,20 @@ linkIn w s at = link (field 1 s at) (field w s (at + 1)) (field 1 s (at + 1 + w)
 
 -- Link k.
 unfoldable pub linkAt : List ℕ → ℕ → Link
-linkAt s k = linkIn (labelWidth s) s (linkPlace s k)
+linkAt s k = linkIn (labelWidth (versionOf s)) s (linkPlace s k)
 
--- "4: n or e out of range. 5: L breaks the formula", L = 8 + 4 × n + 3 × e. 0: neither.
+-- "4: n or e out of range. 5: L breaks the formula", which is L = 8 + 4 × n + 3 × e, or in version 2 L = 8 + 4 × n + 4 × e. 0: neither.
 unfoldable pub countsRefusal : List ℕ → ℕ
 countsRefusal s =
     cond (ltb (cellsOf s) 1 || (ltb 64 (cellsOf s) || ltb 512 (linksOf s))) 4
     (cond (not (eqb (lengthOf s) (linkPlace s (linksOf s)))) 5 0)
 
--- "1: fewer than 8 bytes. 2: L is not the number of bytes lent. 3: version", and then as above.
+-- "1: fewer than 8 bytes. 2: L is not the number of bytes lent. 3: version", which "now means neither", and then as above.
 unfoldable pub headRefusal : List ℕ → ℕ
 headRefusal s =
     cond (ltb (length s) 8) 1
     (cond (not (eqb (lengthOf s) (length s))) 2
-    (cond (not (eqb (versionOf s) 1)) 3 (countsRefusal s)))
+    (cond (ltb (versionOf s) 1 || ltb mostVersion (versionOf s)) 3 (countsRefusal s)))
 
 -- m is below n, or they are equal and the rest decides.
 unfoldable pub below : ℕ → ℕ → Bool → Bool

@@ -5,11 +5,12 @@ use mathlib.Core.List.{List, [], _∷_}
 use Prim.Native.Nat.{ℕ, zero, suc, _+_, _-_, _*_, _/_, _≤_}
 use lib.Dec.{eqb, ltb, leb}
 use lib.ListN.{length, take, drop}
+use Rattle.fields.specs.Label.{labelWidth}
 use Rattle.outcome.specs.Outcome.{Outcome, accepted, refused, ofLeftBook, ofCall}
 use Rattle.theory.specs.Search.{list}
 use Rattle.theory.specs.Graph.{Link}
 use Rattle.theory.specs.Path.{Hop, hop}
-use Rattle.book.specs.Book.{cellsOf, linksOf, labelWidth, linkWidth, linkStart, linkPlace, linkIn, bookRefusal}
+use Rattle.book.specs.Book.{versionOf, cellsOf, linksOf, linkWidth, linkStart, linkPlace, linkIn, bookRefusal}
 use Rattle.book.specs.BookGraph.{bookLinks}
 use Rattle.book.specs.declared.LinksAnswer.{LinksAnswer}
 use Rattle.book.specs.declared.LinksAnswer.the-variants.{Part, BookRefused, NoCell}
@@ -21,7 +22,7 @@ linksBefore x (k ∷ ks) = cond (ltb (k .from) x) (suc (linksBefore x ks)) 0
 
 -- The e links after the recordings of n cells, in order.
 abbrev pub linksAfter : List ℕ → ℕ → ℕ → List Link
-linksAfter s n e = list e (λ k. linkIn (labelWidth s) s (linkStart s n k))
+linksAfter s n e = list e (λ k. linkIn (labelWidth (versionOf s)) s (linkStart s n k))
 
 -- The number of the first link out of cell x, or of a later cell: the links out of x are those from here to the next cell's.
 unfoldable pub firstLink : List ℕ → ℕ → ℕ

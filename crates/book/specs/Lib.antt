@@ -1,7 +1,11 @@
 pub mod Book
 pub mod BookGraph
 pub mod BookLinks
+pub mod Contents
 pub mod AcceptedLaws
 pub mod OutgoingLaws
+pub mod VersionLaws
+pub mod Widened
+pub mod WidenedLaws
 pub mod Examples
 pub mod OutcomeLaws

@@ -9,9 +9,9 @@ use lib.ListN.{length}
 use Rattle.outcome.specs.Outcome.{Fits, ofCall, ofLeftBook}
 use Rattle.outcome.specs.OutcomeLaws.{accepted-fits, refused-fits}
 use Rattle.outcome.specs.RefusalLaws.{either, first-most}
-use Rattle.book.specs.Book.{lengthOf, versionOf, cellsOf, linksOf, labelWidth, linkPlace, linkAt, countsRefusal, headRefusal, rises, linkRefusal, linksRefusal, bookRefusal, bookAnswer, bookOutcome}
+use Rattle.book.specs.Book.{lengthOf, versionOf, mostVersion, cellsOf, linksOf, linkPlace, linkAt, countsRefusal, headRefusal, rises, linkRefusal, linksRefusal, bookRefusal, bookAnswer, bookOutcome}
 use Rattle.book.specs.BookLinks.{firstLink, countOut, partFrom, linksAnswer, linksOutcome}
-use Rattle.book.specs.AcceptedLaws.{book-sizes}
+use Rattle.book.specs.AcceptedLaws.{start-most, book-sizes}
 use Rattle.book.specs.OutgoingLaws.{first-before}
 
 -- The refusals of a book are 1 to 7.
@@ -23,7 +23,7 @@ unfolding headRefusal countsRefusal
 head-most s =
     either Few (ltb (length s) 8) (λ _. omega arith) (λ _.
     either Few (not (eqb (lengthOf s) (length s))) (λ _. omega arith) (λ _.
-    either Few (not (eqb (versionOf s) 1)) (λ _. omega arith) (λ _.
+    either Few (ltb (versionOf s) 1 || ltb mostVersion (versionOf s)) (λ _. omega arith) (λ _.
     either Few (ltb (cellsOf s) 1 || (ltb 64 (cellsOf s) || ltb 512 (linksOf s))) (λ _. omega arith) (λ _.
     either Few (not (eqb (lengthOf s) (linkPlace s (linksOf s)))) (λ _. omega arith) (λ _. omega arith)))))
 
@@ -50,12 +50,12 @@ book-fits s =
 
 -- Links: the count and the start, the refusal, or 26.
 pub links-fits : (s : List ℕ) (x : ℕ) → Fits (linksOutcome (linksAnswer s x))
-unfolding linksAnswer partFrom labelWidth
+unfolding linksAnswer partFrom
 links-fits s x =
     either (λ a. Fits (linksOutcome a)) (eqb (bookRefusal s) 0)
     (λ e. either (λ a. Fits (linksOutcome a)) (leb (cellsOf s) x) (λ _. refused-fits ofCall 26 (omega arith) (omega arith)) (λ _.
     let d = book-sizes s (eqb-true _ _ e) in
-    part (firstLink s x) (countOut s x) (omega (arith, d .most, d .few, first-before s x .most)) (omega (arith, d .most, first-before s (x + 1) .most))))
+    part (firstLink s x) (countOut s x) (omega (arith, d .most, d .few, first-before s x .most, start-most s (cellsOf s) (firstLink s x))) (omega (arith, d .most, first-before s (x + 1) .most))))
     (λ _. refused-fits ofLeftBook (bookRefusal s) (omega arith) (omega (arith, book-refusal-most s)))
   where
     part : (k count : ℕ) → linkPlace s k < 2 ^ 24 → count < 2 ^ 24 → Fits (linksOutcome (partFrom s k count))

@@ -13,11 +13,12 @@ use lib.ListN.{length, take, drop, length-drop}
 use lib.Seq.{length-take-le}
 use Rattle.fields.specs.Fields.{field}
 use Rattle.fields.specs.Laws.{field-take, field-drop}
+use Rattle.fields.specs.Label.{labelWidth}
 use Rattle.theory.specs.TestLaws.{list-ext}
 use Rattle.theory.specs.Search.{list}
 use Rattle.theory.specs.Graph.{Link}
 use Rattle.theory.specs.Path.{out}
-use Rattle.book.specs.Book.{cellsOf, linksOf, labelWidth, linkWidth, linkPlace, linkIn, linkAt, bookRefusal}
+use Rattle.book.specs.Book.{versionOf, cellsOf, linksOf, linkWidth, linkPlace, linkIn, linkAt, bookRefusal}
 use Rattle.book.specs.BookGraph.{graphOf}
 use Rattle.book.specs.BookLinks.{linksBefore, firstLink, countOut, partFrom, linksAnswer, partOf, linksPart, hopOf, hopsIn}
 use Rattle.book.specs.AcceptedLaws.{book-sizes, book-from}
@@ -131,10 +132,21 @@ run-room s r x =
     let k = mul-le-mul-left (linkWidth s) (first-rises s x) in
     omega (arith, d .sized, mul-sub (linkWidth s) (firstLink s (x + 1)) (firstLink s x))
 
--- the part that an answer speaks of lies in the book
+-- where an answer speaks of a part, the book is accepted
+pub part-accepted : (s : List ℕ) (x count start : ℕ) → linksAnswer s x ≡ Part count start → bookRefusal s ≡ 0
+unfolding linksAnswer
+part-accepted s x count start e = go (eqb (bookRefusal s) 0) refl e
+  where
+    go : (t : Bool) → eqb (bookRefusal s) 0 ≡ t
+        → cond t (cond (leb (cellsOf s) x) NoCell (partFrom s (firstLink s x) (countOut s x))) (BookRefused (bookRefusal s)) ≡ Part count start
+        → bookRefusal s ≡ 0
+    go true d e = eqb-true _ _ d
+    go false d e = absurd (let z : _≡_ {A = ℕ} 0 1 = cc in omega arith)
+
+-- and the part lies in it
 pub part-room : (s : List ℕ) (x count start : ℕ) → linksAnswer s x ≡ Part count start → start + linkWidth s * count ≤ length s
 unfolding linksAnswer partFrom
-part-room s x count start e = go (eqb (bookRefusal s) 0) refl (leb (cellsOf s) x) e
+part-room s x count start e = let r = part-accepted s x count start e in go r (leb (cellsOf s) x) (rw (eq-eqb (bookRefusal s) 0 r) at e)
   where
     run : (k m : ℕ) → linkPlace s k + linkWidth s * m ≤ length s → partFrom s k m ≡ Part count start → start + linkWidth s * count ≤ length s
     run k zero h e =
@@ -146,12 +158,10 @@ part-room s x count start e = go (eqb (bookRefusal s) 0) refl (leb (cellsOf s) x
         let z : start ≡ linkPlace s k = cc in
         rw (c, z) h
 
-    go : (t : Bool) → eqb (bookRefusal s) 0 ≡ t → (u : Bool)
-        → cond t (cond u NoCell (partFrom s (firstLink s x) (countOut s x))) (BookRefused (bookRefusal s)) ≡ Part count start
+    go : bookRefusal s ≡ 0 → (u : Bool) → cond u NoCell (partFrom s (firstLink s x) (countOut s x)) ≡ Part count start
         → start + linkWidth s * count ≤ length s
-    go true d true e = absurd (let z : _≡_ {A = ℕ} 0 1 = cc in omega arith)
-    go true d false e = run (firstLink s x) (countOut s x) (run-room s (eqb-true _ _ d) x) e
-    go false d u e = absurd (let z : _≡_ {A = ℕ} 0 1 = cc in omega arith)
+    go r true e = absurd (let z : _≡_ {A = ℕ} 0 1 = cc in omega arith)
+    go r false e = run (firstLink s x) (countOut s x) (run-room s r x) e
 
 module _ (s : List ℕ) (r : bookRefusal s ≡ 0) (x : ℕ) (h : x < cellsOf s) where
   -- what Links hands out are the bytes of the links from the first out of x on
@@ -167,19 +177,19 @@ module _ (s : List ℕ) (r : bookRefusal s ≡ 0) (x : ℕ) (h : x < cellsOf s) 
   part-length = rw part-is (length-take-le _ _ (rw length-drop (omega (arith, run-room s r x))))
 
   -- read as hops, it is exactly the hops out of x
-  pub part-out : hopsIn (labelWidth s) (linksPart s x) ≡ out (graphOf s .links) x
+  pub part-out : hopsIn (labelWidth (versionOf s)) (linksPart s x) ≡ out (graphOf s .links) x
   unfolding hopsIn linkAt
   part-out =
-      ap (λ (n : ℕ). list n (λ k. hopOf (linkIn (labelWidth s) (linksPart s x) (linkWidth s * k)))) count
+      ap (λ (n : ℕ). list n (λ k. hopOf (linkIn (labelWidth (versionOf s)) (linksPart s x) (linkWidth s * k)))) count
       ∙ list-ext (countOut s x) _ _ (λ i l. ap hopOf (each i l))
       ∙ sym (book-out s r x)
     where
       count : length (linksPart s x) / linkWidth s ≡ countOut s x
       count = rw part-length (mul-div-cancel-left (countOut s x) (omega arith))
 
-      each : (i : ℕ) → i < countOut s x → linkIn (labelWidth s) (linksPart s x) (linkWidth s * i) ≡ linkAt s (firstLink s x + i)
+      each : (i : ℕ) → i < countOut s x → linkIn (labelWidth (versionOf s)) (linksPart s x) (linkWidth s * i) ≡ linkAt s (firstLink s x + i)
       each i l =
           let place : linkPlace s (firstLink s x) + linkWidth s * i ≡ linkPlace s (firstLink s x + i) = omega arith in
-          rw part-is (part-link (labelWidth s) s (linkWidth s * countOut s x) (linkPlace s (firstLink s x)) (linkWidth s * i)
+          rw part-is (part-link (labelWidth (versionOf s)) s (linkWidth s * countOut s x) (linkPlace s (firstLink s x)) (linkWidth s * i)
           (omega (arith, mul-le-mul-left (linkWidth s) l))
           ∙ rw place)

@@ -3,10 +3,9 @@ ghost use mathlib.Core.Path.{_≡_};
 ghost use Prim.Native.Nat.{_+_, _-_, _*_, _≤_, _<_};
 ghost use lib.Dec.{ltb};
 ghost use lib.ListN.{length};
-ghost use Rattle.fields.specs.Fields.{field};
 ghost use Rattle.theory.specs.Graph.{compared, same, differ};
 ghost use Rattle.outcome.specs.Outcome.{code};
-ghost use Rattle.book.specs.Book.{cellsOf, linksOf, recordingPlace, recordingAt, labelWidth, linkStart, linkPlace, linkAt, countsRefusal, headRefusal, precedes, linkRefusal, linksRefusal, bookRefusal, bookAnswer, bookOutcome, asLink};
+ghost use Rattle.book.specs.Book.{versionOf, cellsOf, linksOf, recordingPlace, recordingAt, linkWidth, linkStart, linkPlace, linkAt, countsRefusal, headRefusal, precedes, linkRefusal, linksRefusal, bookRefusal, bookAnswer, bookOutcome, asLink};
 ghost use Rattle.book.specs.BookGraph.{dataValue};
 ghost use Rattle.book.specs.BookLinks.{linksBefore, linksAfter, firstLink, RangeOut, partFrom, linksAnswer, linksPart, linksOutcome};
 
@@ -22,7 +21,7 @@ pub struct Recording(pub u32);
 // A link: from a cell, by a label, to a cell.
 pub struct BookLink {
     pub from: u8,
-    pub label: u8,
+    pub label: u16,
     pub to: u8,
 }
 
@@ -44,6 +43,14 @@ pub enum LinksAnswer {
     Part { count: u16, start: u16 },
     BookRefused(u8),
     NoCell,
+}
+
+// The version.
+pub fn version_of(bytes: &[u8]) -> u8
+    requires { ⌜ 8 ≤ length (now bytes) ⌝ }
+    ensures { λ r. ⌜ r ≡ versionOf (now (bytes .entry)) ⌝ }
+{
+    fields::get1(bytes, 4)
 }
 
 // The number of cells.
@@ -70,27 +77,20 @@ fn has_cell(bytes: &[u8], cell: usize) -> bool
     cell < cells_of(bytes)
 }
 
-// How many bytes a label takes.
-fn label_width(bytes: &[u8]) -> usize
-    ensures { λ r. ⌜ (r ≡ labelWidth (now (bytes .entry))) × (r ≤ 2) ⌝ }
+// How many bytes a link takes: 3 in version 1, 4 in version 2.
+fn link_width(bytes: &[u8]) -> usize
+    requires { ⌜ 8 ≤ length (now bytes) ⌝ }
+    ensures { λ r. ⌜ (r ≡ linkWidth (now (bytes .entry))) × (r ≤ 4) ⌝ }
 {
-    1
-}
-
-// The label at `at`.
-fn label_at(bytes: &[u8], at: usize) -> u8
-    requires { ⌜ at + labelWidth (now bytes) ≤ length (now bytes) ⌝ }
-    ensures { λ r. ⌜ r ≡ field (labelWidth (now (bytes .entry))) (now (bytes .entry)) at ⌝ }
-{
-    fields::get1(bytes, at)
+    2 + fields::label_width(version_of(bytes))
 }
 
 // The byte where link k starts, after the recordings of so many cells.
 pub fn link_start(bytes: &[u8], cells: usize, k: usize) -> usize
-    requires { ⌜ (cells < 256) × (k < 65536) ⌝ }
+    requires { ⌜ (8 ≤ length (now bytes)) × (cells < 256) × (k < 65536) ⌝ }
     ensures { λ r. ⌜ (r ≡ linkStart (now (bytes .entry)) cells k) × (r ≤ 8 + 4 * cells + 4 * k) ⌝ }
 {
-    let width = 2 + label_width(bytes);
+    let width = link_width(bytes);
     8 + 4 * cells + width * k
 }
 
@@ -102,7 +102,9 @@ fn link_place(bytes: &[u8], k: usize) -> usize
     link_start(bytes, cells_of(bytes), k)
 }
 
-// The most cells and links of a book.
+// The newest version of a book, and its most cells and links.
+const MOST_VERSION: u8 = 2;
+
 pub const MOST_CELLS: usize = 64;
 
 pub const MOST_LINKS: usize = 512;
@@ -141,8 +143,11 @@ fn head_refusal(bytes: &[u8]) -> u8
     if l != bytes.len() {
         return 2;
     }
-    let version = fields::get1(bytes, 4);
-    if version != 1 {
+    let version = version_of(bytes);
+    if version < 1 {
+        return 3;
+    }
+    if MOST_VERSION < version {
         return 3;
     }
     counts_refusal(bytes)
@@ -154,9 +159,10 @@ fn read_link(bytes: &[u8], k: usize) -> BookLink
     ensures { λ r. ⌜ asLink r ≡ linkAt (now (bytes .entry)) k ⌝ }
 {
     let at = link_place(bytes, k);
+    let version = version_of(bytes);
     let from = fields::get1(bytes, at);
-    let label = label_at(bytes, at + 1);
-    let width = label_width(bytes);
+    let label = fields::get_label(bytes, at + 1, version);
+    let width = fields::label_width(version);
     let to = fields::get1(bytes, at + 1 + width);
     BookLink { from, label, to }
 }
@@ -365,7 +371,7 @@ pub fn links(bytes: &[u8], cell: usize) -> &[u8]
     let answer = links_answer(bytes, cell);
     match answer {
         LinksAnswer::Part { count, start } => {
-            let width = 2 + label_width(bytes);
+            let width = link_width(bytes);
             let from = start as usize;
             let end = from + width * (count as usize);
             &bytes[from..end]

@@ -1,7 +1,7 @@
 -- What each way out of Compare shows of the definitions of `specs/`, in the form in which `search` finds it.
 use mathlib.Core.List.{List, _++_}
 use mathlib.Core.Path.{_≡_, refl, sym, ap, ap₂, _∙_}
-use Prim.Native.Nat.{ℕ, _*_, _^_, _≤_, _<_}
+use Prim.Native.Nat.{ℕ, _+_, _*_, _^_, _≤_, _<_}
 use native.Mathlib.Omega.{arith}
 use mir.Syntax.{w8}
 use mir.Val.{Fits}
@@ -10,25 +10,25 @@ use lib.ListN.{length, getD, drop, replicate, take-append-drop}
 use lib.Seq.{sets}
 use Rattle.outcome.specs.Outcome.{code}
 use Rattle.book.specs.Book.{cellsOf, bookRefusal}
-use Rattle.sheet.specs.Entry.{onlyVersion, Entry}
-use Rattle.sheet.specs.Sheet.{headSize, mostBound}
+use Rattle.sheet.specs.Entry.{Entry}
+use Rattle.sheet.specs.Sheet.{headSize, mostBound, stepWidth}
 use Rattle.sheet.specs.Encoding.{header, sheetBytes}
 use Rattle.sheet.specs.WrittenLaws.{Writable, written-length}
 use Rattle.sheet_writer.specs.Writing.{Holding}
 use Rattle.sheet_writer.specs.WritingLaws.{holding-sheet, sheet-kept-after}
 use Rattle.compare_laws.specs.Places.{zeros}
 use Rattle.compare_laws.specs.PlaceLaws.{zeros-nonzeros}
-use Rattle.compare_laws.specs.Room.{roomNeeded}
+use Rattle.compare_laws.specs.Room.{pairBytes, roomNeeded}
 use Rattle.compare_laws.specs.Refining.{Compared}
 use Rattle.compare_laws.specs.Theorems.{compared-writable, compared-room}
 use Rattle.compare_entries.specs.declared.Pen.{Pen}
-use Rattle.compare_lists.specs.BookSetting.{settingOf}
+use Rattle.compare_lists.specs.BookSetting.{sheetVersion, settingOf}
 use Rattle.compare_lists.specs.Comparing.{Lent, Fills}
 use Rattle.compare.specs.declared.CompareAnswer.{CompareAnswer}
 use Rattle.compare.specs.declared.CompareAnswer.the-variants as says
 use Rattle.compare.specs.Compare.{pairsOf, scratchNeeded, lentAnswer, compareAnswer, compareOutcome, comparedMap, comparedSheet, Lists, leftBy, rightAnswer, lent, IsCompare, IsCompareCode}
 use Rattle.compare.specs.Promises.{Given, map-places, sheet-fits}
-use Rattle.compare.specs.Laws.{books-accepted, accepts-compared, compared-accepts, pairs-most}
+use Rattle.compare.specs.Laws.{books-accepted, accepts-compared, compared-accepts, room-most, pairs-most}
 
 -- three lists are these
 lists-ext : {map map′ room room′ scratch scratch′ : List ℕ} → map ≡ map′ → room ≡ room′ → scratch ≡ scratch′ → lent map room scratch ≡ lent map′ room′ scratch′
@@ -41,25 +41,25 @@ module _ {l r : List ℕ} {c : ℕ} {map : List ℕ} {room : List ℕ} (given : 
   entries : List Entry
   entries = t .finished .entries
 
-  held : Holding filled entries (pen .at)
+  held : Holding (sheetVersion l r) filled entries (pen .at)
   unfolding entries
-  held = t .finished .penned .held
+  held = rw (t .finished .version) at (t .finished .penned .held)
 
   compared : Compared (settingOf l r c) entries map′
   unfolding entries
   compared = t .finished .compared
 
-  writable : Writable c entries
+  writable : Writable (sheetVersion l r) c entries
   writable = compared-writable (t .comparable) compared
 
-  sheet-length : length (sheetBytes c entries) ≡ pen .at
+  sheet-length : length (sheetBytes (sheetVersion l r) c entries) ≡ pen .at
   sheet-length = written-length writable ∙ sym (held .place)
 
   -- the sheet's length and the count of zeros fit their numbers
   pub sheet-narrow : pen .at < 2 ^ 32
   sheet-narrow =
       let h = compared-room (t .comparable) compared in
-      omega (arith, sheet-length, pairs-most l r (given .leftAccepted) (given .rightAccepted))
+      omega (arith, sheet-length, room-most (sheetVersion l r) _ 4096 (pairs-most l r (given .leftAccepted) (given .rightAccepted)))
 
   pub count-narrow : (count : ℕ) → count ≡ zeros map′ → count < 2 ^ 32
   count-narrow count e = omega (arith, zeros-nonzeros map′, compared .size, pairs-most l r (given .leftAccepted) (given .rightAccepted))
@@ -68,20 +68,20 @@ module _ {l r : List ℕ} {c : ℕ} {map : List ℕ} {room : List ℕ} (given : 
   header-room = omega (arith, held .inside, held .place)
 
   -- what is defined is what is there
-  sheet-is : sheetBytes c entries ≡ comparedSheet l r c
-  sheet-is = ap (sheetBytes c) (compared .entries)
+  sheet-is : sheetBytes (sheetVersion l r) c entries ≡ comparedSheet l r c
+  sheet-is = ap (sheetBytes (sheetVersion l r) c) (compared .entries)
 
-  module _ {room′ : List ℕ} (w : room′ ≡ sets filled 0 (header (pen .at) c (pen .next))) where
-    headed : room′ ≡ sets filled 0 (header (pen .at) c (length entries))
+  module _ {room′ : List ℕ} (w : room′ ≡ sets filled 0 (header (pen .version) (pen .at) c (pen .next))) where
+    headed : room′ ≡ sets filled 0 (header (sheetVersion l r) (pen .at) c (length entries))
     unfolding entries
-    headed = w ∙ ap (λ n. sets filled 0 (header (pen .at) c n)) (t .finished .penned .number)
+    headed = w ∙ ap₂ (λ v n. sets filled 0 (header v (pen .at) c n)) (t .finished .version) (t .finished .penned .number)
 
     -- the room starts with the sheet, and what follows it is as it was
     room-is : room′ ≡ comparedSheet l r c ++ drop (length (comparedSheet l r c)) room
     room-is =
         sym (take-append-drop (pen .at) room′)
         ∙ ap₂ _++_ (holding-sheet held c headed) (sheet-kept-after held c headed (pen .at) (omega (arith, held .place)) ∙ t .behind .kept (pen .at) (omega arith))
-        ∙ ap (λ n. sheetBytes c entries ++ drop n room) (sym sheet-length) ∙ ap (λ s. s ++ drop (length s) room) sheet-is
+        ∙ ap (λ n. sheetBytes (sheetVersion l r) c entries ++ drop n room) (sym sheet-length) ∙ ap (λ s. s ++ drop (length s) room) sheet-is
 
     -- Compare has served the caller
     pub all-served : {scratch scratch′ : List ℕ} {count : ℕ} → scratchNeeded (pairsOf l r) ≤ length scratch → scratch′ ≡ replicate (length scratch) 0 → count ≡ zeros map′
@@ -114,10 +114,18 @@ module _ (l r : List ℕ) (n m : ℕ) (d : n ≡ cellsOf l) (e : m ≡ cellsOf r
     pub pairs-fit : n * m < 2 ^ 64
     pairs-fit = omega (arith, pairs-few)
 
-    pub all-lent : (c : ℕ) (map room : List ℕ) (needed : ℕ) → needed ≡ roomNeeded onlyVersion (n * m) → c ≤ mostBound → length map ≡ n * m → needed ≤ length room
+    pub all-lent : (c : ℕ) (map room : List ℕ) (v needed : ℕ) → v ≡ sheetVersion l r → needed ≡ roomNeeded v (n * m) → c ≤ mostBound → length map ≡ n * m → needed ≤ length room
         → Lent l r c map room
-    all-lent c map room needed k low places roomy =
-        record { leftAccepted = left; rightAccepted = right; bound = low; places = rw (d, e) at places; roomy = rw (k, d, e) at roomy }
+    all-lent c map room v needed dv k low places roomy =
+        record { leftAccepted = left; rightAccepted = right; bound = low; places = rw (d, e) at places; roomy = rw (k, dv, d, e) at roomy }
+
+-- the room that is asked for
+module _ (v size pairs : ℕ) (d : size ≡ stepWidth v * 8) (h : pairs ≤ 4096) where
+  pub room-is-needed : 10 + (20 + size) * pairs ≡ roomNeeded v pairs
+  room-is-needed = ap (λ b. 10 + b * pairs) (let e : 20 + size ≡ pairBytes v = omega arith in e)
+
+  pub room-small : 10 + (20 + size) * pairs ≤ 10 + 52 * 4096
+  room-small = rw room-is-needed (room-most v pairs 4096 h)
 
 -- ---- what is declined
 
@@ -143,7 +151,7 @@ module _ (l r : List ℕ) (c : ℕ) (b : Lists) where
 
     module _ (left : bookRefusal l ≡ 0) (right : bookRefusal r ≡ 0) (n m : ℕ) (d : n ≡ cellsOf l) (e : m ≡ cellsOf r) where
       -- what is lent is judged by the number of pairs
-      lent-declined : (a : CompareAnswer) → lentAnswer (n * m) (length (b .map)) (length (b .room)) (length (b .scratch)) (length (comparedSheet l r c)) (zeros (comparedMap l r c)) ≡ a
+      lent-declined : (a : CompareAnswer) → lentAnswer (sheetVersion l r) (n * m) (length (b .map)) (length (b .room)) (length (b .scratch)) (length (comparedSheet l r c)) (zeros (comparedMap l r c)) ≡ a
           → b ≡ leftBy l r c b a → IsCompare l r c b a b
       lent-declined a k = declined a (books-accepted l r c _ _ _ _ _ low left right ∙ rw (d, e) at k)
 
@@ -151,17 +159,17 @@ module _ (l r : List ℕ) (c : ℕ) (b : Lists) where
       unfolding lentAnswer leftBy
       map-length f = lent-declined says.MapLength (simp (ne-eqb (length (b .map)) (n * m) f)) refl
 
-      module _ (places : length (b .map) ≡ n * m) (needed : ℕ) (k : needed ≡ roomNeeded onlyVersion (n * m)) where
+      module _ (places : length (b .map) ≡ n * m) (v needed : ℕ) (dv : v ≡ sheetVersion l r) (k : needed ≡ roomNeeded v (n * m)) where
         pub few-room : length (b .room) < needed → IsCompare l r c b says.FewRoom b
         unfolding lentAnswer leftBy
-        few-room h = lent-declined says.FewRoom (simp (eq-eqb (length (b .map)) (n * m) places, lt-ltb (length (b .room)) (roomNeeded onlyVersion (n * m)) (rw k at h))) refl
+        few-room h = lent-declined says.FewRoom (simp (eq-eqb (length (b .map)) (n * m) places, lt-ltb (length (b .room)) (roomNeeded (sheetVersion l r) (n * m)) (rw (k, dv) at h))) refl
 
         module _ (roomy : needed ≤ length (b .room)) where
           pub few-scratch : length (b .scratch) < scratchNeeded (n * m) → IsCompare l r c b says.FewScratch b
           unfolding lentAnswer leftBy
           few-scratch h =
               lent-declined says.FewScratch
-              (simp (eq-eqb (length (b .map)) (n * m) places, le-ltb (length (b .room)) (roomNeeded onlyVersion (n * m)) (rw k at roomy), lt-ltb (length (b .scratch)) (scratchNeeded (n * m)) h)) refl
+              (simp (eq-eqb (length (b .map)) (n * m) places, le-ltb (length (b .room)) (roomNeeded (sheetVersion l r) (n * m)) (rw (k, dv) at roomy), lt-ltb (length (b .scratch)) (scratchNeeded (n * m)) h)) refl
 
 -- ---- as one number
 
@@ -186,7 +194,7 @@ module _ (l r : List ℕ) (c : ℕ) (before now : Lists) (a : CompareAnswer) (t 
         let books : Given l r c =
         record { bytes = (record { each = λ i. bl i .fits }, record { each = λ i. br i .fits }); left = g .left; right = g .right; bound = g .bound } in
         let most = pairs-most l r (g .left) (g .right) in
-        (omega (arith, d, sheet-fits books), omega (arith, n, zeros-nonzeros (comparedMap l r c), map-places books))
+        (omega (arith, d, sheet-fits books, room-most (sheetVersion l r) _ 4096 most), omega (arith, n, zeros-nonzeros (comparedMap l r c), map-places books))
     values says.BoundAbove e = (omega arith, omega arith)
     values (says.LeftRefused refusal) e = (omega arith, omega arith)
     values (says.RightRefused refusal) e = (omega arith, omega arith)

@@ -7,13 +7,12 @@ use lib.Dec.{eqb, ltb}
 use lib.ListN.{length, drop, replicate}
 use Rattle.outcome.specs.Outcome.{Outcome, accepted, refused, ofCall, ofLeftBook, ofRightBook, code}
 use Rattle.book.specs.Book.{cellsOf, bookRefusal}
-use Rattle.sheet.specs.Entry.{onlyVersion}
 use Rattle.sheet.specs.Sheet.{mostBound}
 use Rattle.sheet.specs.Encoding.{sheetBytes}
 use Rattle.compare_laws.specs.Room.{roomNeeded}
 use Rattle.compare_laws.specs.Comparison.{State, comparison}
 use Rattle.compare_laws.specs.Places.{zeros}
-use Rattle.compare_lists.specs.BookSetting.{settingOf}
+use Rattle.compare_lists.specs.BookSetting.{sheetVersion, settingOf}
 use Rattle.compare.specs.declared.CompareAnswer.{CompareAnswer}
 use Rattle.compare.specs.declared.CompareAnswer.the-variants as says
 
@@ -25,12 +24,13 @@ pairsOf l r = cellsOf l * cellsOf r
 abbrev pub scratchNeeded : ℕ → ℕ
 scratchNeeded pairs = 16 * pairs
 
--- "21: map length not n × m. 22: sheet room below 10 + 44 × n × m bytes. 23: scratch below 16 × n × m." Otherwise "the answer holds the sheet's length
+-- "21: map length not n × m. 22: sheet room below 10 + 44 × n × m bytes" (02, 2026-02: where the sheet's version v is 2, "10 + 52 × n × m").
+-- "23: scratch below 16 × n × m." Otherwise "the answer holds the sheet's length
 -- and the number of zeros in the map". `places`, `room` and `scratch` are how much is lent of each for so many pairs.
-unfoldable pub lentAnswer : (pairs places room scratch sheet count : ℕ) → CompareAnswer
-lentAnswer pairs places room scratch sheet count =
+unfoldable pub lentAnswer : (v pairs places room scratch sheet count : ℕ) → CompareAnswer
+lentAnswer v pairs places room scratch sheet count =
     cond (not (eqb places pairs)) says.MapLength
-    (cond (ltb room (roomNeeded onlyVersion pairs)) says.FewRoom
+    (cond (ltb room (roomNeeded v pairs)) says.FewRoom
     (cond (ltb scratch (scratchNeeded pairs)) says.FewScratch (says.Compared sheet count)))
 
 -- "20: c above 4. The left book's refusal, then the right's, each with its side", and then as above.
@@ -39,7 +39,7 @@ compareAnswer l r c places room scratch sheet count =
     cond (ltb mostBound c) says.BoundAbove
     (cond (not (eqb (bookRefusal l) 0)) (says.LeftRefused (bookRefusal l))
     (cond (not (eqb (bookRefusal r) 0)) (says.RightRefused (bookRefusal r))
-    (lentAnswer (pairsOf l r) places room scratch sheet count)))
+    (lentAnswer (sheetVersion l r) (pairsOf l r) places room scratch sheet count)))
 
 -- Nothing is to be declined: a bound, two accepted books, and as much lent as 01 asks for.
 pub record Accepts (l r : List ℕ) (c places room scratch : ℕ) : Type 0 where
@@ -47,7 +47,7 @@ pub record Accepts (l r : List ℕ) (c places room scratch : ℕ) : Type 0 where
   pub left : bookRefusal l ≡ 0
   pub right : bookRefusal r ≡ 0
   pub map : places ≡ pairsOf l r
-  pub roomy : roomNeeded onlyVersion (pairsOf l r) ≤ room
+  pub roomy : roomNeeded (sheetVersion l r) (pairsOf l r) ≤ room
   pub spare : scratchNeeded (pairsOf l r) ≤ scratch
 
 -- 01's number of each answer, and the part that a refusal speaks of.
@@ -70,7 +70,7 @@ comparedMap l r c = compared l r c .map
 
 -- The sheet that has these questions.
 abbrev pub comparedSheet : List ℕ → List ℕ → ℕ → List ℕ
-comparedSheet l r c = sheetBytes c (compared l r c .entries)
+comparedSheet l r c = sheetBytes (sheetVersion l r) c (compared l r c .entries)
 
 -- The lists as lent at entry, and at exit.
 pub record Lists : Type 0 where

@@ -2,24 +2,25 @@
 use mathlib.Core.Bool.{not}
 use mathlib.Core.List.{List}
 use mathlib.Core.Path.{_≡_, sym, _∙_}
-use Prim.Native.Nat.{ℕ, _≤_}
+use Prim.Native.Nat.{ℕ, _+_, _*_, _≤_}
 use native.Mathlib.Nat.{mul-le-mul}
 use native.Mathlib.Omega.{arith}
 use borrow.Author.Tests.{le-ltb, ltb-false, eq-eqb, eqb-true, not-false}
 use lib.Dec.{eqb, ltb}
+use Rattle.fields.specs.LabelLaws.{label-width}
 use Rattle.outcome.specs.RefusalLaws.{passed-by}
 use Rattle.book.specs.Book.{bookRefusal}
 use Rattle.book.specs.AcceptedLaws.{book-sizes}
-use Rattle.sheet.specs.Entry.{onlyVersion}
 use Rattle.sheet.specs.Sheet.{mostBound}
-use Rattle.compare_laws.specs.Room.{roomNeeded}
+use Rattle.compare_laws.specs.Room.{pairBytes, roomNeeded}
+use Rattle.compare_lists.specs.BookSetting.{sheetVersion}
 use Rattle.compare.specs.declared.CompareAnswer.the-variants as says
 use Rattle.compare.specs.Compare.{pairsOf, scratchNeeded, lentAnswer, compareAnswer, Accepts}
 
 module _ (l r : List ℕ) (c places room scratch sheet count : ℕ) where
   -- where only what is lent is still to be judged
   pub books-accepted : c ≤ mostBound → bookRefusal l ≡ 0 → bookRefusal r ≡ 0
-      → compareAnswer l r c places room scratch sheet count ≡ lentAnswer (pairsOf l r) places room scratch sheet count
+      → compareAnswer l r c places room scratch sheet count ≡ lentAnswer (sheetVersion l r) (pairsOf l r) places room scratch sheet count
   unfolding compareAnswer
   books-accepted bound left right = simp (le-ltb mostBound c bound, eq-eqb (bookRefusal l) 0 left, eq-eqb (bookRefusal r) 0 right)
 
@@ -28,7 +29,7 @@ module _ (l r : List ℕ) (c places room scratch sheet count : ℕ) where
   unfolding lentAnswer
   accepts-compared g =
       books-accepted (g .bound) (g .left) (g .right)
-      ∙ simp (eq-eqb places (pairsOf l r) (g .map), le-ltb room (roomNeeded onlyVersion (pairsOf l r)) (g .roomy), le-ltb scratch (scratchNeeded (pairsOf l r)) (g .spare))
+      ∙ simp (eq-eqb places (pairsOf l r) (g .map), le-ltb room (roomNeeded (sheetVersion l r) (pairsOf l r)) (g .roomy), le-ltb scratch (scratchNeeded (pairsOf l r)) (g .spare))
 
   -- and only then, with these values
   pub compared-accepts : (sheet′ count′ : ℕ) → says.Compared sheet′ count′ ≡ compareAnswer l r c places room scratch sheet count
@@ -39,7 +40,7 @@ module _ (l r : List ℕ) (c places room scratch sheet count : ℕ) where
       let (left, h2) = passed-by (not (eqb (bookRefusal l) 0)) (λ e. let z : _≡_ {A = ℕ} 0 1 = cc in omega arith) h1 in
       let (right, h3) = passed-by (not (eqb (bookRefusal r) 0)) (λ e. let z : _≡_ {A = ℕ} 0 1 = cc in omega arith) h2 in
       let (map, h4) = passed-by (not (eqb places (pairsOf l r))) (λ e. let z : _≡_ {A = ℕ} 0 1 = cc in omega arith) h3 in
-      let (roomy, h5) = passed-by (ltb room (roomNeeded onlyVersion (pairsOf l r))) (λ e. let z : _≡_ {A = ℕ} 0 1 = cc in omega arith) h4 in
+      let (roomy, h5) = passed-by (ltb room (roomNeeded (sheetVersion l r) (pairsOf l r))) (λ e. let z : _≡_ {A = ℕ} 0 1 = cc in omega arith) h4 in
       let (spare, h6) = passed-by (ltb scratch (scratchNeeded (pairsOf l r))) (λ e. let z : _≡_ {A = ℕ} 0 1 = cc in omega arith) h5 in (
         record {
           bound = ltb-false _ _ bound;
@@ -52,6 +53,10 @@ module _ (l r : List ℕ) (c places room scratch sheet count : ℕ) where
         cc,
         cc,
       )
+
+-- the room that at most so many pairs need, in any version
+pub room-most : (v n most : ℕ) → n ≤ most → roomNeeded v n ≤ 10 + 52 * most
+room-most v n most h = let f : pairBytes v ≤ 52 = omega (arith, label-width v .most) in omega (arith, mul-le-mul f h)
 
 -- two accepted books have at most 4,096 pairs
 pub pairs-most : (l r : List ℕ) → bookRefusal l ≡ 0 → bookRefusal r ≡ 0 → pairsOf l r ≤ 4096

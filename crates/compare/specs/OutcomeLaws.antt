@@ -12,11 +12,13 @@ use Rattle.outcome.specs.OutcomeLaws.{accepted-fits, refused-fits}
 use Rattle.outcome.specs.RefusalLaws.{either}
 use Rattle.book.specs.Book.{bookRefusal}
 use Rattle.book.specs.OutcomeLaws.{book-refusal-most}
+use Rattle.compare_laws.specs.Room.{roomNeeded}
 use Rattle.compare_laws.specs.Places.{zeros}
 use Rattle.compare_laws.specs.PlaceLaws.{zeros-nonzeros}
+use Rattle.compare_lists.specs.BookSetting.{sheetVersion}
 use Rattle.compare.specs.declared.CompareAnswer.{CompareAnswer}
 use Rattle.compare.specs.Compare.{pairsOf, lentAnswer, compareAnswer, compareOutcome, comparedMap, comparedSheet, Lists, rightAnswer}
-use Rattle.compare.specs.Laws.{pairs-most}
+use Rattle.compare.specs.Laws.{room-most, pairs-most}
 use Rattle.compare.specs.Promises.{Given, map-places, sheet-fits}
 
 -- Compare: the sheet's length and the number of zeros; 20, the refusal of a book, or 21 to 23.
@@ -29,10 +31,10 @@ compare-fits l r c before bytes =
     either P (not (eqb (bookRefusal l) 0)) (λ _. refused-fits ofLeftBook (bookRefusal l) (omega arith) (omega (arith, book-refusal-most l))) (λ left.
     either P (not (eqb (bookRefusal r) 0)) (λ _. refused-fits ofRightBook (bookRefusal r) (omega arith) (omega (arith, book-refusal-most r))) (λ right.
     either P (not (eqb (length (before .map)) pairs)) (λ _. refused-fits ofCall 21 (omega arith) (omega arith)) (λ _.
-    either P (ltb (length (before .room)) (10 + 44 * pairs)) (λ _. refused-fits ofCall 22 (omega arith) (omega arith)) (λ _.
+    either P (ltb (length (before .room)) (roomNeeded (sheetVersion l r) pairs)) (λ _. refused-fits ofCall 22 (omega arith) (omega arith)) (λ _.
     either P (ltb (length (before .scratch)) (16 * pairs)) (λ _. refused-fits ofCall 23 (omega arith) (omega arith)) (λ _.
     let books : Given l r c =
     record { bytes = bytes; left = eqb-true _ _ (not-false _ left); right = eqb-true _ _ (not-false _ right); bound = ltb-false 4 c bound } in
     let most = pairs-most l r (books .left) (books .right) in
     accepted-fits (length (comparedSheet l r c)) (zeros (comparedMap l r c))
-    (omega (arith, sheet-fits books)) (omega (arith, zeros-nonzeros (comparedMap l r c), map-places books))))))))
+    (omega (arith, sheet-fits books, room-most (sheetVersion l r) pairs 4096 most)) (omega (arith, zeros-nonzeros (comparedMap l r c), map-places books))))))))

@@ -16,7 +16,8 @@ use Rattle.theory.specs.Bisimulation.{twoSided, Greatest}
 use Rattle.theory.specs.Rounds.{matched}
 use Rattle.book.specs.Book.{cellsOf, bookRefusal}
 use Rattle.book.specs.BookGraph.{graphOf}
-use Rattle.sheet.specs.Entry.{onlyVersion}
+use Rattle.book.specs.Contents.{SameContents}
+use Rattle.book.specs.VersionLaws.{same-graph}
 use Rattle.sheet.specs.Sheet.{mostBound, lengthOf, countOf, sheetAnswer}
 use Rattle.sheet.specs.PassedLaws.{accepted-head}
 use Rattle.sheet.specs.WrittenLaws.{Writable, written-good, written-answer, written-count, written-question}
@@ -27,10 +28,10 @@ use Rattle.compare_laws.specs.Room.{roomNeeded}
 use Rattle.compare_laws.specs.Comparison.{comparison}
 use Rattle.compare_laws.specs.Places.{placed}
 use Rattle.compare_laws.specs.Refining.{Comparable, Compared}
-use Rattle.compare_laws.specs.DefinedLaws.{comparison-compared}
+use Rattle.compare_laws.specs.DefinedLaws.{comparison-compared, comparison-any}
 use Rattle.compare_laws.specs.Places.{zeroPairs}
 use Rattle.compare_laws.specs.Theorems.{zeroPairs-settled, zeroPairs-greatest, zero-agrees, nonzero-simplest, compared-writable, compared-room}
-use Rattle.compare_lists.specs.BookSetting.{settingOf}
+use Rattle.compare_lists.specs.BookSetting.{sheetVersion, settingOf}
 use Rattle.compare_lists.specs.Laws.{books-comparable}
 use Rattle.compare.specs.Compare.{pairsOf, compared, comparedMap, comparedSheet}
 use Rattle.compare.specs.Parted.{PartedBy}
@@ -49,7 +50,7 @@ module _ {l r : List ℕ} {c : ℕ} (g : Given l r c) where
   done : Compared (settingOf l r c) (compared l r c .entries) (comparedMap l r c)
   done = comparison-compared comparable
 
-  writable : Writable c (compared l r c .entries)
+  writable : Writable (sheetVersion l r) c (compared l r c .entries)
   writable = compared-writable comparable done
 
   -- a place for each pair
@@ -61,7 +62,7 @@ module _ {l r : List ℕ} {c : ℕ} (g : Given l r c) where
   sheet-accepted = written-answer writable ∙ ap (λ q. Accepted q c) (sym (written-count writable))
 
   -- has room in the bytes that are asked for,
-  pub sheet-fits : length (comparedSheet l r c) ≤ roomNeeded onlyVersion (pairsOf l r)
+  pub sheet-fits : length (comparedSheet l r c) ≤ roomNeeded (sheetVersion l r) (pairsOf l r)
   sheet-fits = compared-room comparable done
 
   -- "and starts the room": it is found there by the length that it says.
@@ -91,10 +92,18 @@ module _ {l r : List ℕ} {c : ℕ} (g : Given l r c) where
         let same = written-question writable (placed (cellsOf r) (comparedMap l r c) i j) in
         record { named = rw (written-count writable) n; simplest = rw same s; shallow = rw same d }
 
--- Books that are one graph each are compared alike, to the byte.
+-- Books that are one graph each are compared alike: the same places and the same entries, in whatever versions the books and the sheet are written.
 pub compared-alike : (l l′ r r′ : List ℕ) (c : ℕ) → graphOf l ≡ graphOf l′ → graphOf r ≡ graphOf r′
-    → (comparedMap l r c ≡ comparedMap l′ r′ c) × (comparedSheet l r c ≡ comparedSheet l′ r′ c)
-compared-alike l l′ r r′ c e f = (ap₂ (λ g h. comparison (both g h) .map) e f, ap₂ (λ g h. sheetBytes c (comparison (both g h) .entries)) e f)
+    → (comparedMap l r c ≡ comparedMap l′ r′ c) × (compared l r c .entries ≡ compared l′ r′ c .entries)
+compared-alike l l′ r r′ c e f = (ap (λ s. s .map) state, ap (λ s. s .entries) state)
   where
-    both : Graph → Graph → Setting
-    both g h = record { left = g; right = h; sides = twoSided; bound = c; version = onlyVersion }
+    both : ℕ → Graph → Graph → Setting
+    both v g h = record { left = g; right = h; sides = twoSided; bound = c; version = v }
+
+    state : compared l r c ≡ compared l′ r′ c
+    state = comparison-any (settingOf l r c) (sheetVersion l′ r′) ∙ ap₂ (λ g h. comparison (both (sheetVersion l′ r′) g h)) e f
+
+-- So are books with the same cells and links, of one version or of two: they are one graph each.
+pub contents-alike : (l l′ r r′ : List ℕ) (c : ℕ) → SameContents l l′ → SameContents r r′
+    → (comparedMap l r c ≡ comparedMap l′ r′ c) × (compared l r c .entries ≡ compared l′ r′ c .entries)
+contents-alike l l′ r r′ c d e = compared-alike l l′ r r′ c (same-graph l l′ d) (same-graph r r′ e)

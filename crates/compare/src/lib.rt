@@ -4,7 +4,6 @@ ghost use Prim.Native.Nat.{_^_, _≤_, _<_};
 ghost use lib.ListN.{length};
 ghost use Rattle.outcome.specs.Outcome.{code};
 ghost use Rattle.book.specs.Book.{bookRefusal};
-ghost use Rattle.sheet.specs.Entry.{onlyVersion};
 ghost use Rattle.sheet.specs.Sheet.{mostBound};
 ghost use Rattle.compare_laws.specs.Room.{roomNeeded};
 ghost use Rattle.compare_lists.specs.Comparing.{Lent};
@@ -19,8 +18,10 @@ const MOST_BOUND: usize = sheet::MOST_BOUND as usize;
 // The bytes of a sheet's header and of its first entry, always true.
 const HEAD_AND_TRUE: usize = 10;
 
-// The most bytes that a parted pair takes in the room, and what it takes of the scratch.
-const BYTES_A_PAIR: usize = 44;
+// What a parted pair takes in the room at most: so many steps, and so many bytes besides; and what it takes of the scratch.
+const STEPS_A_PAIR: usize = 8;
+
+const BYTES_A_PAIR: usize = 20;
 
 const SCRATCH_A_PAIR: usize = 16;
 
@@ -50,7 +51,7 @@ fn served(
 {
     let pen = compare_lists::fill(left, right, bound, map, room);
     let at = pen.at;
-    sheet_writer::put_header(room, at as u32, bound, pen.next);
+    sheet_writer::put_header(room, pen.version, at as u32, bound, pen.next);
     compare_map::clear_bytes(scratch);
     let count = compare_map::zeros(map);
     CompareAnswer::Compared {
@@ -59,12 +60,13 @@ fn served(
     }
 }
 
-// The bytes of room that so many pairs need: the header and the first entry, and what parts them all.
-fn room_needed(pairs: usize) -> usize
+// The bytes of room that so many pairs need for a sheet of a version: the header and the first entry, and what parts them all.
+fn room_needed(version: u8, pairs: usize) -> usize
     requires { ⌜ pairs ≤ 4096 ⌝ }
-    ensures { λ r. ⌜ r ≡ roomNeeded onlyVersion pairs ⌝ }
+    ensures { λ r. ⌜ r ≡ roomNeeded version pairs ⌝ }
 {
-    HEAD_AND_TRUE + BYTES_A_PAIR * pairs
+    let bytes = BYTES_A_PAIR + sheet::steps_size(version, STEPS_A_PAIR);
+    HEAD_AND_TRUE + bytes * pairs
 }
 
 // Compare of two accepted books: whether enough is lent.
@@ -83,7 +85,8 @@ fn measured(
     if map.len() != pairs {
         return CompareAnswer::MapLength;
     }
-    if room.len() < room_needed(pairs) {
+    let version = compare_lists::sheet_version(left, right);
+    if room.len() < room_needed(version, pairs) {
         return CompareAnswer::FewRoom;
     }
     if scratch.len() < SCRATCH_A_PAIR * pairs {
@@ -95,7 +98,7 @@ fn measured(
 // Compare: for each left cell i and right cell j of m, place i × m + j of the map becomes 0 where the two are matched, else the number of a question
 // that parts them; the room starts with the sheet of these questions, and the scratch becomes zeros. Refused, all lists being as before: 20 where the
 // bound is above 4, the left book's refusal, the right book's, 21 where the map has not one place a pair, 22 where the room is below
-// 10 + 44 bytes a pair, 23 where the scratch is below 16 bytes a pair.
+// 10 + 44 bytes a pair (52 where a book is of version 2), 23 where the scratch is below 16 bytes a pair.
 pub fn compare(
     left: &[u8],
     right: &[u8],

@@ -8,7 +8,7 @@ use lib.ListN.{length, getD, set, length-set}
 use lib.Seq.{getD-set-other}
 use Rattle.sheet.specs.Entry.{Entry, conjunction}
 use Rattle.sheet.specs.WrittenLaws.{sizeOf}
-use Rattle.sheet_writer.specs.Writing.{PutEntry}
+use Rattle.sheet_writer.specs.Writing.{PutPlain}
 use Rattle.compare_laws.specs.Comparison.{conjoined, conjoint}
 use Rattle.compare_entries.specs.Growing.{Penned, Roomy, sideOf, Conjoins, NameFits, Names}
 use Rattle.compare_entries.specs.GrowingLaws.{extends-none, extends-one, extends-more, side-at, left-at, left-set, right-set, left-kept, right-kept}
@@ -28,17 +28,17 @@ module _ (room : List ℕ) (pen : Pen) (numbers : List ℕ) (x d : ℕ) where
 
   -- another entry did
   pub conjoins-both : (room′ : List ℕ) (end : ℕ) → Roomy room pen 6 1 → (getD numbers x 0 ≡ 0 → ⊥)
-      → PutEntry room (pen .at) (conjunction (getD numbers x 0) d) room′ end
-      → Conjoins room room′ pen (record { at = end; next = pen .next + 1 }) numbers (set numbers x (pen .next)) x d
+      → PutPlain room (pen .at) (conjunction (getD numbers x 0) d) room′ end
+      → Conjoins room room′ pen (record { at = end; next = pen .next + 1; version = pen .version }) numbers (set numbers x (pen .next)) x d
   unfolding conjoined conjoint sizeOf
   conjoins-both room′ end r f w = go (getD numbers x 0) refl f w
     where
-      go : (old : ℕ) → getD numbers x 0 ≡ old → (old ≡ 0 → ⊥) → PutEntry room (pen .at) (conjunction old d) room′ end
-          → Conjoins room room′ pen (record { at = end; next = pen .next + 1 }) numbers (set numbers x (pen .next)) x d
+      go : (old : ℕ) → getD numbers x 0 ≡ old → (old ≡ 0 → ⊥) → PutPlain room (pen .at) (conjunction old d) room′ end
+          → Conjoins room room′ pen (record { at = end; next = pen .next + 1; version = pen .version }) numbers (set numbers x (pen .next)) x d
       go zero e f w = absurd (f refl)
       go (suc i) e f w =
           record {
-            written = rw e (extends-one room room′ pen 6 end (conjunction (suc i) d) r (omega arith) w);
+            written = rw e (extends-one room room′ pen 6 end (conjunction (suc i) d) r (omega arith) (w .any (pen .version)));
             named = λ es p. rw (e, p .number);
             wide = length-set numbers x (pen .next);
           }
@@ -68,6 +68,7 @@ module _ (room : List ℕ) (pen : Pen) (map : List ℕ) (place : ℕ) (new : Lis
             onward = extends-more (first .written) (second .written) .onward;
             bytesMost = extends-more (first .written) (second .written) .bytesMost;
             entriesMost = extends-more (first .written) (second .written) .entriesMost;
+            version = extends-more (first .written) (second .written) .version;
           };
           marked = refl;
           left = λ es p.

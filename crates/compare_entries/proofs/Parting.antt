@@ -4,24 +4,26 @@ use mathlib.Core.Bool.{Bool, true, false}
 use mathlib.Core.List.{List, [], _∷_, _++_}
 use mathlib.Core.Logic.{⊎-elim}
 use mathlib.Core.Path.{_≡_, refl, sym, ap, ap₂, _∙_}
-use Prim.Native.Nat.{ℕ, zero, suc, _+_, _*_, _≤_, _<_}
-use native.Mathlib.Nat.{eq-or-lt-of-le}
+use Prim.Native.Nat.{ℕ, zero, suc, _+_, _*_, _^_, _≤_, _<_}
+use native.Mathlib.Nat.{eq-or-lt-of-le, mul-le-mul-left}
 use native.Mathlib.Numerals.{add-one}
 use native.Mathlib.Omega.{arith}
 use lib.ListN.{length, getD, set, take, drop, length-set, length-append}
 use lib.Seq.{drop-cons, length-take-le, getD-set-same, getD-set-other}
 use mir.Syntax.{w64}
 use mir.Val.{Fits}
+use Rattle.fields.specs.Label.{labelWidth}
 use Rattle.sheet.specs.Entry.{Entry, negation, entryWith, way}
+use Rattle.sheet.specs.Sheet.{stepWidth}
 use Rattle.sheet.specs.WrittenLaws.{sizeOf}
-use Rattle.sheet_writer.specs.Writing.{step, stepsFrom, stepsGiven, StepsFit, WaysFit, PutEntry}
+use Rattle.sheet_writer.specs.Writing.{step, stepsFrom, stepsGiven, StepsFit, WaysFit, PutEntry, PutPlain}
 use Rattle.search_links.specs.Hops.{viewOf}
 use Rattle.search_steps.specs.Paths.{pathOf}
-use Rattle.search.specs.Reasons.{pathIn}
+use Rattle.search.specs.Reasons.{pathIn, Numbered}
 use Rattle.search.specs.Laws.{reason-link, reason-same, reason-differ}
 use Rattle.search_pairs.specs.declared.Route.{Route}
 use Rattle.search.specs.declared.Reason.{Reason}
-use Rattle.compare_laws.specs.Room.{reasonBytes}
+use Rattle.compare_laws.specs.Room.{reasonBytes, deniedBytes}
 use Rattle.compare_laws.specs.Comparison.{State, Cause, ahead, back, withDenial, write, part, stepsAlong, reasonEntry}
 use Rattle.compare_entries.specs.Growing.{Roomy, Extends, sideOf, NameFits, Names}
 use Rattle.compare_entries.specs.GrowingLaws.{onward-more, extends-one, extends-more, side-at}
@@ -46,25 +48,25 @@ module _ (labels to numbers : List ℕ) (base : ℕ) (path : Route) where
   pub filled-none : (names tests : List ℕ) → length names ≡ 4 → length tests ≡ 4 → Filled labels to (sideOf base numbers) (path .links) names tests 0
   filled-none names tests h k = record { named = h; tested = k; label = λ j l. absurd (omega arith); test = λ j l. absurd (omega arith) }
 
-  module _ (names tests : List ℕ) (i n : ℕ) (inv : Filled labels to (sideOf base numbers) (path .links) names tests i) (pass : Passable labels to path) (d : n ≡ path .len) where
+  module _ (names tests : List ℕ) (i n : ℕ) (inv : Filled labels to (sideOf base numbers) (path .links) names tests i) (pass : Numbered to 4 path) (d : n ≡ path .len) where
     pub filled-more : i < n → (a y : ℕ) → a ≡ getD labels (getD (path .links) i 0) 0 → y ≡ getD to (getD (path .links) i 0) 0
         → Filled labels to (sideOf base numbers) (path .links) (set names i a) (set tests i (getD numbers (base + y) 0)) (i + 1)
     filled-more h a y da dy =
-        let s = pass .numbered .short in
+        let s = pass .short in
         record {
           named = length-set names i _ ∙ inv .named;
           tested = length-set tests i _ ∙ inv .tested;
           label = set-rule (λ j. getD labels (getD (path .links) j 0) 0) names i _ (omega (arith, inv .named)) da (inv .label);
           test = set-rule (λ j. getD (sideOf base numbers) (getD to (getD (path .links) j 0) 0) 0) tests i _ (omega (arith, inv .tested))
-              (rw dy (sym (side-at base numbers _ (pass .numbered .low i (omega arith))))) (inv .test);
+              (rw dy (sym (side-at base numbers _ (pass .low i (omega arith))))) (inv .test);
         }
 
     pub filled-all : i ≤ n → n ≤ i → Spells labels to (sideOf base numbers) path (record { labels = names; tests = tests })
     unfolding stepsFrom stepsAlong pathOf
-    filled-all h k = record { steps = go (path .len) 0 (omega arith); labelled = inv .named; tested = inv .tested }
+    filled-all h k = record { steps = go (path .len) 0 (omega arith); label = λ j o. inv .label j (omega arith); labelled = inv .named; tested = inv .tested }
       where
         long : path .len ≤ length (path .links)
-        long = omega (arith, pass .numbered .short, pass .numbered .links)
+        long = omega (arith, pass .short, pass .links)
 
         go : (q j : ℕ) → j + q ≤ path .len → stepsFrom names tests j q ≡ stepsAlong (sideOf base numbers) (pathOf (viewOf [] labels to) (take q (drop j (path .links))))
         go zero j l = refl
@@ -74,16 +76,13 @@ module _ (labels to numbers : List ℕ) (base : ℕ) (path : Route) where
             (go q (j + 1) (omega arith) ∙ rw (add-one j)))
 
   -- what the reads of a turn ask
-  module _ (pass : Passable labels to path) (i n : ℕ) (d : n ≡ path .len) (h : i < n) where
+  module _ (pass : Numbered to 4 path) (i n : ℕ) (d : n ≡ path .len) (h : i < n) where
     pub link-below : getD (path .links) i 0 < 512
-    link-below = pass .numbered .below i (omega arith)
-
-    pub label-below : (a : ℕ) → a ≡ getD labels (getD (path .links) i 0) 0 → a < 256
-    label-below a da = rw da (pass .narrow i (omega arith))
+    link-below = pass .below i (omega arith)
 
     module _ (low : base ≤ 64) (y : ℕ) (dy : y ≡ getD to (getD (path .links) i 0) 0) where
       node-below : y < 64
-      node-below = rw dy (pass .numbered .low i (omega arith))
+      node-below = rw dy (pass .low i (omega arith))
 
       pub number-below : base + y < 128
       number-below = omega (arith, node-below)
@@ -99,18 +98,30 @@ module _ (labels to numbers : List ℕ) (base : ℕ) (path : Route) where
       number-scaled = record { fits = omega (arith, node-below) }
 
 -- ---- the entry of a reason
-module _ (labels to numbers room : List ℕ) (at : ℕ) (why : Reason) (put : Puttable labels to why) (fits : at + reasonBytes 1 ≤ length room) (p : Way)
+module _ (v : ℕ) (labels to numbers room : List ℕ) (at : ℕ) (why : Reason) (put : Puttable v labels to why) (fits : at + reasonBytes v ≤ length room) (p : Way)
     (sp : Spells labels to numbers (why .first) p) where
+  pub first-numbered : Numbered to 4 (why .first)
+  first-numbered = put .first .numbered
+
+  -- the labels have room in their bytes
+  narrow : (path : Route) → Passable v labels to path → (u : Way) → Spells labels to numbers path u → (i : ℕ) → i < path .len → getD (u .labels) i 0 < 256 ^ labelWidth v
+  narrow path s u k i h = rw (k .label i h) (s .narrow i h)
+
   pub way-short : why .first .len ≤ 60
   way-short = omega (arith, put .first .numbered .short)
 
-  pub way-fits : StepsFit room (at + 3) (p .labels) (p .tests) (why .first .len)
+  pub way-fits : StepsFit v room (at + 3) (p .labels) (p .tests) (why .first .len)
   way-fits =
       let s = put .first .numbered .short in
-      record { labelled = omega (arith, sp .labelled); tested = omega (arith, sp .tested); inside = omega arith }
+      record {
+        labelled = omega (arith, sp .labelled);
+        tested = omega (arith, sp .tested);
+        narrow = narrow (why .first) (put .first) p sp;
+        inside = omega (arith, mul-le-mul-left (stepWidth v) s);
+      }
 
-  pub put-link : why .kind ≡ 4 → (room′ : List ℕ) (end : ℕ) → PutEntry room at (way (stepsGiven (p .labels) (p .tests) (why .first .len))) room′ end
-      → PutEntry room at (reasonEntry numbers (listed labels to why)) room′ end
+  pub put-link : why .kind ≡ 4 → (room′ : List ℕ) (end : ℕ) → PutEntry v room at (way (stepsGiven (p .labels) (p .tests) (why .first .len))) room′ end
+      → PutEntry v room at (reasonEntry numbers (listed labels to why)) room′ end
   unfolding reasonEntry pathOf
   put-link e room′ end w =
       rw (reason-link (viewOf [] labels to) why e) (rw (sp .steps, put .one e, one (why .first .links) (put .first .numbered .links)) at w)
@@ -126,24 +137,37 @@ module _ (labels to numbers room : List ℕ) (at : ℕ) (why : Reason) (put : Pu
     pub pair-most : why .kind ≤ 6
     pair-most = put .known .1
 
-    pub pair-passable : Passable labels to (why .second)
+    pair-passable : Passable v labels to (why .second)
     pair-passable = put .two pair-kind
 
+    pub second-numbered : Numbered to 4 (why .second)
+    second-numbered = pair-passable .numbered
+
     module _ (q : Way) (sq : Spells labels to numbers (why .second) q) where
-      pub ways-fit : WaysFit room (at + 4) (p .labels) (p .tests) (why .first .len) (q .labels) (q .tests) (why .second .len)
+      pub ways-fit : WaysFit v room (at + 4) (p .labels) (p .tests) (why .first .len) (q .labels) (q .tests) (why .second .len)
       ways-fit =
           let s = put .first .numbered .short in
           let s′ = pair-passable .numbered .short in
           record {
             short = s;
             short′ = s′;
-            first = record { labelled = omega (arith, sp .labelled); tested = omega (arith, sp .tested); inside = omega arith };
-            second = record { labelled = omega (arith, sq .labelled); tested = omega (arith, sq .tested); inside = omega arith };
+            first = record {
+              labelled = omega (arith, sp .labelled);
+              tested = omega (arith, sp .tested);
+              narrow = narrow (why .first) (put .first) p sp;
+              inside = omega (arith, mul-le-mul-left (stepWidth v) s);
+            };
+            second = record {
+              labelled = omega (arith, sq .labelled);
+              tested = omega (arith, sq .tested);
+              narrow = narrow (why .second) pair-passable q sq;
+              inside = omega (arith, mul-le-mul-left (stepWidth v) s, mul-le-mul-left (stepWidth v) s′);
+            };
           }
 
       pub put-pair : (room′ : List ℕ) (end : ℕ)
-          → PutEntry room at (entryWith (why .kind) 0 0 (stepsGiven (p .labels) (p .tests) (why .first .len)) (stepsGiven (q .labels) (q .tests) (why .second .len))) room′ end
-          → PutEntry room at (reasonEntry numbers (listed labels to why)) room′ end
+          → PutEntry v room at (entryWith (why .kind) 0 0 (stepsGiven (p .labels) (p .tests) (why .first .len)) (stepsGiven (q .labels) (q .tests) (why .second .len))) room′ end
+          → PutEntry v room at (reasonEntry numbers (listed labels to why)) room′ end
       unfolding reasonEntry entryWith
       put-pair room′ end w =
           let w′ = rw (sp .steps, sq .steps) at w in
@@ -153,14 +177,14 @@ module _ (labels to numbers room : List ℕ) (at : ℕ) (why : Reason) (put : Pu
           (eq-or-lt-of-le (put .known .1))
 
 -- ---- the entry and its denial
--- the entry takes at most 28 bytes
+-- the entry takes at most so many bytes
 length-along : (numbers : List ℕ) (labels to w : List ℕ) → length (stepsAlong numbers (pathOf (viewOf [] labels to) w)) ≡ length w
 unfolding stepsAlong pathOf
 length-along numbers labels to [] = refl
 length-along numbers labels to (k ∷ w) = ap suc (length-along numbers labels to w)
 
-module _ (labels to numbers : List ℕ) (why : Reason) (put : Puttable labels to why) where
-  length-path : (path : Route) → Passable labels to path → length (stepsAlong numbers (pathIn (viewOf [] labels to) path)) ≤ 4
+module _ (v : ℕ) (labels to numbers : List ℕ) (why : Reason) (put : Puttable v labels to why) where
+  length-path : (path : Route) → Passable v labels to path → length (stepsAlong numbers (pathIn (viewOf [] labels to) path)) ≤ 4
   length-path path s =
       omega (
         arith,
@@ -169,7 +193,10 @@ module _ (labels to numbers : List ℕ) (why : Reason) (put : Puttable labels to
         length-take-le (path .len) (path .links) (omega (arith, s .numbered .short, s .numbered .links)),
       )
 
-  reason-size : sizeOf (reasonEntry numbers (listed labels to why)) ≤ reasonBytes 1
+  eight : {a b : ℕ} → a ≤ 4 → b ≤ 4 → stepWidth v * (a + b) ≤ stepWidth v * 8
+  eight {a} {b} h k = let f : a + b ≤ 8 = omega arith in mul-le-mul-left (stepWidth v) f
+
+  reason-size : sizeOf v (reasonEntry numbers (listed labels to why)) ≤ reasonBytes v
   unfolding reasonEntry sizeOf stepsAlong
   reason-size =
       ⊎-elim
@@ -178,27 +205,27 @@ module _ (labels to numbers : List ℕ) (why : Reason) (put : Puttable labels to
       let p = length-path (why .first) (put .first) in
       let q = length-path (why .second) (put .two l) in
       ⊎-elim
-      (λ e. rw (reason-differ (viewOf [] labels to) why e) (omega arith))
-      (λ k. let e : why .kind ≡ 5 = omega arith in rw (reason-same (viewOf [] labels to) why e) (omega arith))
+      (λ e. rw (reason-differ (viewOf [] labels to) why e) (omega (arith, eight p q)))
+      (λ k. let e : why .kind ≡ 5 = omega arith in rw (reason-same (viewOf [] labels to) why e) (omega (arith, eight p q)))
       (eq-or-lt-of-le (put .known .1)))
       (eq-or-lt-of-le (put .known .0))
 
-  module _ (room room₁ : List ℕ) (pen : Pen) (roomy : Roomy room pen 32 2) (mid : ℕ)
-      (w : PutEntry room (pen .at) (reasonEntry numbers (listed labels to why)) room₁ mid) where
-    first : Extends room room₁ pen (record { at = mid; next = pen .next + 1 }) 28 1 (λ es. es ++ (reasonEntry numbers (listed labels to why) ∷ []))
+  module _ (room room₁ : List ℕ) (pen : Pen) (d : v ≡ pen .version) (roomy : Roomy room pen (deniedBytes (pen .version)) 2) (mid : ℕ)
+      (w : PutEntry v room (pen .at) (reasonEntry numbers (listed labels to why)) room₁ mid) where
+    first : Extends room room₁ pen (record { at = mid; next = pen .next + 1; version = pen .version }) (reasonBytes (pen .version)) 1 (λ es. es ++ (reasonEntry numbers (listed labels to why) ∷ []))
     first =
-        extends-one room room₁ pen 28 mid _ (record { inside = omega (arith, roomy .inside); few = omega (arith, roomy .few) }) reason-size w
+        extends-one room room₁ pen (reasonBytes (pen .version)) mid _ (record { inside = omega (arith, roomy .inside); few = omega (arith, roomy .few) }) (rw (← d) reason-size) (rw (← d) w)
 
     pub denial-fits : mid + 4 ≤ length room₁
     denial-fits = omega (arith, roomy .inside, first .onward .size, first .bytesMost)
 
-    pub denied : (room₂ : List ℕ) (end : ℕ) → PutEntry room₁ mid (negation (pen .next)) room₂ end
-        → Denies room room₂ pen (record { at = end; next = pen .next + 2 }) (reasonEntry numbers (listed labels to why))
+    pub denied : (room₂ : List ℕ) (end : ℕ) → PutPlain room₁ mid (negation (pen .next)) room₂ end
+        → Denies room room₂ pen (record { at = end; next = pen .next + 2; version = pen .version }) (reasonEntry numbers (listed labels to why))
     unfolding withDenial sizeOf
     denied room₂ end w₂ =
         let e = reasonEntry numbers (listed labels to why) in
-        let second = extends-one room₁ room₂ (record { at = mid; next = pen .next + 1 }) 4 end (negation (pen .next))
-        (record { inside = denial-fits; few = omega (arith, roomy .few) }) (omega arith) w₂ in
+        let second = extends-one room₁ room₂ (record { at = mid; next = pen .next + 1; version = pen .version }) 4 end (negation (pen .next))
+        (record { inside = denial-fits; few = omega (arith, roomy .few) }) (omega arith) (w₂ .any (pen .version)) in
         let t = extends-more first second in
         record {
           written = record {
@@ -209,13 +236,14 @@ module _ (labels to numbers : List ℕ) (why : Reason) (put : Puttable labels to
             onward = t .onward;
             bytesMost = omega (arith, t .bytesMost);
             entriesMost = omega arith;
+            version = refl;
           };
         }
 
 -- ---- the pair
 module _ (room : List ℕ) (pen : Pen) (map : List ℕ) (place : ℕ) (labels to old new : List ℕ) (a b : ℕ) (why : Reason)
     (fits : PartFits room pen map place labels to new a b why) where
-  pub denied-roomy : Roomy room pen 32 2
+  pub denied-roomy : Roomy room pen (deniedBytes (pen .version)) 2
   denied-roomy = record { inside = omega (arith, fits .roomy .inside); few = omega (arith, fits .roomy .few) }
 
   module _ (room₁ : List ℕ) (pen₁ : Pen) where
@@ -258,6 +286,7 @@ module _ (room : List ℕ) (pen : Pen) (map : List ℕ) (place : ℕ) (labels to
                   newRight = rw (← s .newLeft, ← s .newRight) (n .right (withDenial (now .entries) e) p);
                 });
             onward = onward-more (y .written .onward) (n .written .onward);
+            version = n .written .version ∙ y .written .version;
             wide = n .wide;
           }
 

@@ -10,7 +10,7 @@ use Rattle.compare_entries.specs.declared.Pen.{Pen}
 
 -- The room holds the entries, and the pen is behind the last of them.
 pub record Penned (room : List ℕ) (es : List Entry) (pen : Pen) : Type 0 where
-  pub held : Holding room es (pen .at)
+  pub held : Holding (pen .version) room es (pen .at)
   pub number : pen .next ≡ length es
 
 -- There is room for as many bytes and entries more.
@@ -30,6 +30,7 @@ pub record Extends (room room′ : List ℕ) (pen pen′ : Pen) (bytes entries :
   pub onward : Onward room room′ (pen .at) (pen′ .at)
   pub bytesMost : pen′ .at ≤ pen .at + bytes
   pub entriesMost : pen′ .next ≤ pen .next + entries
+  pub version : pen′ .version ≡ pen .version
 
 -- In a list of what describes the cells of both books: the numbers of one side, the left cells' from 0 on, the right ones' from 64 on.
 abbrev pub sideOf : ℕ → List ℕ → List ℕ

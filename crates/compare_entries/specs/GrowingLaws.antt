@@ -30,11 +30,11 @@ onward-more x y =
 -- nothing written
 pub extends-none : (room : List ℕ) (pen : Pen) (bytes entries : ℕ) → Extends room room pen pen bytes entries (λ es. es)
 extends-none room pen bytes entries =
-    record { grown = λ es p. p; onward = onward-none room (pen .at); bytesMost = omega arith; entriesMost = omega arith }
+    record { grown = λ es p. p; onward = onward-none room (pen .at); bytesMost = omega arith; entriesMost = omega arith; version = refl }
 
 -- one entry written
-pub extends-one : (room room′ : List ℕ) (pen : Pen) (bytes at : ℕ) (e : Entry) → Roomy room pen bytes 1 → sizeOf e ≤ bytes → PutEntry room (pen .at) e room′ at
-    → Extends room room′ pen (record { at = at; next = pen .next + 1 }) bytes 1 (λ es. es ++ (e ∷ []))
+pub extends-one : (room room′ : List ℕ) (pen : Pen) (bytes at : ℕ) (e : Entry) → Roomy room pen bytes 1 → sizeOf (pen .version) e ≤ bytes → PutEntry (pen .version) room (pen .at) e room′ at
+    → Extends room room′ pen (record { at = at; next = pen .next + 1; version = pen .version }) bytes 1 (λ es. es ++ (e ∷ []))
 extends-one room room′ pen bytes at e r h w =
     record {
       grown = λ es p. record {
@@ -42,19 +42,20 @@ extends-one room room′ pen bytes at e r h w =
         number = omega (arith, p .number, length-append es (e ∷ []));
       };
       onward = record {
-        size = ap length (w .left) ∙ length-sets room (pen .at) (encodeEntry e);
-        kept = λ n k. rw (w .left) (drop-sets room (pen .at) (encodeEntry e) sized n (omega (arith, w .end)));
-        further = omega (arith, entry-end e w);
+        size = ap length (w .left) ∙ length-sets room (pen .at) (encodeEntry (pen .version) e);
+        kept = λ n k. rw (w .left) (drop-sets room (pen .at) (encodeEntry (pen .version) e) sized n (omega (arith, w .end)));
+        further = omega (arith, entry-end (pen .version) e w);
       };
-      bytesMost = omega (arith, entry-end e w);
+      bytesMost = omega (arith, entry-end (pen .version) e w);
       entriesMost = le-refl _;
+      version = refl;
     }
   where
-    fits : pen .at + sizeOf e ≤ length room
+    fits : pen .at + sizeOf (pen .version) e ≤ length room
     fits = omega (arith, r .inside)
 
-    sized : pen .at + length (encodeEntry e) ≤ length room
-    sized = omega (arith, length-encodeEntry e)
+    sized : pen .at + length (encodeEntry (pen .version) e) ≤ length room
+    sized = omega (arith, length-encodeEntry (pen .version) e)
 
 -- one growth after another
 pub extends-more : {room room′ room″ : List ℕ} {pen pen′ pen″ : Pen} {b b′ k k′ : ℕ} {f g : List Entry → List Entry} → Extends room room′ pen pen′ b k f
@@ -65,6 +66,7 @@ extends-more {f = f} x y =
       onward = onward-more (x .onward) (y .onward);
       bytesMost = omega (arith, x .bytesMost, y .bytesMost);
       entriesMost = omega (arith, x .entriesMost, y .entriesMost);
+      version = y .version ∙ x .version;
     }
 
 -- ---- the two sides of a list of numbers

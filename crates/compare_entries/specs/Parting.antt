@@ -2,16 +2,17 @@
 use mathlib.Core.Bool.{Bool, cond}
 use mathlib.Core.List.{List, []}
 use mathlib.Core.Path.{_≡_}
-use Prim.Native.Nat.{ℕ, _+_, _*_, _≤_, _<_}
+use Prim.Native.Nat.{ℕ, _+_, _*_, _^_, _≤_, _<_}
 use lib.ListN.{length, getD}
 use Rattle.theory.specs.Parting.{Reason as TheoryReason}
+use Rattle.fields.specs.Label.{labelWidth}
 use Rattle.sheet.specs.Entry.{Entry}
 use Rattle.sheet_writer.specs.Writing.{stepsGiven}
 use Rattle.search_links.specs.Hops.{viewOf}
 use Rattle.search.specs.Reasons.{pathIn, reasonOf, Numbered}
 use Rattle.search_pairs.specs.declared.Route.{Route}
 use Rattle.search.specs.declared.Reason.{Reason}
-use Rattle.compare_laws.specs.Room.{pairEntries, pairBytes}
+use Rattle.compare_laws.specs.Room.{pairEntries, deniedBytes, pairBytes}
 use Rattle.compare_laws.specs.Comparison.{State, Cause, ahead, back, withDenial, part, stepsAlong}
 use Rattle.compare_entries.specs.Growing.{Penned, Roomy, Onward, Extends, sideOf}
 use Rattle.compare_entries.specs.declared.Pen.{Pen}
@@ -25,32 +26,33 @@ listed labels to why = reasonOf (viewOf [] labels to) why
 abbrev pub causeIn : List ℕ → List ℕ → Bool → Reason → Cause
 causeIn labels to forth why = cond forth (ahead (listed labels to why)) (back (listed labels to why))
 
--- At most 4 links that there are, and their labels have room in a byte.
-pub record Passable (labels to : List ℕ) (path : Route) : Type 0 where
+-- At most 4 links that there are, and their labels have room in a sheet of version v.
+pub record Passable (v : ℕ) (labels to : List ℕ) (path : Route) : Type 0 where
   pub numbered : Numbered to 4 path
-  pub narrow : (i : ℕ) → i < path .len → getD labels (getD (path .links) i 0) 0 < 256
+  pub narrow : (i : ℕ) → i < path .len → getD labels (getD (path .links) i 0) 0 < 256 ^ labelWidth v
 
 -- The way's steps are those along the path.
 pub record Spells (labels to numbers : List ℕ) (path : Route) (w : Way) : Type 0 where
   pub steps : stepsGiven (w .labels) (w .tests) (path .len) ≡ stepsAlong numbers (pathIn (viewOf [] labels to) path)
+  pub label : (i : ℕ) → i < path .len → getD (w .labels) i 0 ≡ getD labels (getD (path .links) i 0) 0
   pub labelled : length (w .labels) ≡ 4
   pub tested : length (w .tests) ≡ 4
 
 -- The reason is one link, or two paths and a comparison.
-pub record Puttable (labels to : List ℕ) (why : Reason) : Type 0 where
+pub record Puttable (v : ℕ) (labels to : List ℕ) (why : Reason) : Type 0 where
   pub known : (4 ≤ why .kind) × (why .kind ≤ 6)
-  pub first : Passable labels to (why .first)
+  pub first : Passable v labels to (why .first)
   pub one : why .kind ≡ 4 → why .first .len ≡ 1
-  pub two : 5 ≤ why .kind → Passable labels to (why .second)
+  pub two : 5 ≤ why .kind → Passable v labels to (why .second)
 
 -- The entry e and its denial were written.
 pub record Denies (room room′ : List ℕ) (pen pen′ : Pen) (e : Entry) : Type 0 where
-  pub written : Extends room room′ pen pen′ 32 2 (λ es. withDenial es e)
+  pub written : Extends room room′ pen pen′ (deniedBytes (pen .version)) 2 (λ es. withDenial es e)
 
 -- There is room for what parts a pair, of bytes and entries.
 pub record PartFits (room : List ℕ) (pen : Pen) (map : List ℕ) (place : ℕ) (labels to new : List ℕ) (a b : ℕ) (why : Reason) : Type 0 where
-  pub puttable : Puttable labels to why
-  pub roomy : Roomy room pen (pairBytes 1) pairEntries
+  pub puttable : Puttable (pen .version) labels to why
+  pub roomy : Roomy room pen (pairBytes (pen .version)) pairEntries
   pub inside : place < length map
   pub leftCell : a < 64
   pub rightCell : b < 64
@@ -82,4 +84,5 @@ pub record Shows (x : Lists) (now : State) : Type 0 where
 pub record Parted (x x′ : Lists) (place a b : ℕ) (cause : Cause) : Type 0 where
   pub next : (m : ℕ) (now : State) → place ≡ a * m + b → Shows x now → Shows x′ (part m a b cause now)
   pub onward : Onward (x .room) (x′ .room) (x .pen .at) (x′ .pen .at)
+  pub version : x′ .pen .version ≡ x .pen .version
   pub wide : length (x′ .new) ≡ length (x .new)

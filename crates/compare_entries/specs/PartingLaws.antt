@@ -3,7 +3,7 @@ use mathlib.Core.Bool.{cond}
 use mathlib.Core.List.{List, [], _∷_}
 use mathlib.Core.Path.{_≡_, refl, sym, ap, ap₂}
 use mathlib.Core.Logic.{⊎-elim}
-use Prim.Native.Nat.{ℕ, zero, suc, _≤_, _<_}
+use Prim.Native.Nat.{ℕ, zero, suc, _^_, _≤_, _<_}
 use native.Mathlib.Nat.{eq-or-lt-of-le, not-suc-le-zero, le-of-suc-le-suc}
 use native.Mathlib.Omega.{arith}
 use lib.Dec.{eqb}
@@ -12,6 +12,7 @@ use Rattle.theory.specs.Graph.{Graph, same, differ}
 use Rattle.theory.specs.Path.{Hop, Path, Walk}
 use Rattle.theory.specs.Bisimulation.{Relation}
 use Rattle.theory.specs.Parting.{byLink, byPaths, Fails}
+use Rattle.fields.specs.Label.{labelWidth}
 use Rattle.search_links.specs.Hops.{View, viewOf, hopAt}
 use Rattle.search_steps.specs.Paths.{pathOf}
 use Rattle.search.specs.Reasons.{Posed, pathIn, reasonOf, Numbered, Answered}
@@ -34,19 +35,19 @@ listed-is starts labels to why =
     (path-lists starts labels to _) (path-lists starts labels to _)
 
 -- ---- an answer of the search can be put
-module _ {l : Graph} (narrow : Narrow l) where
-  walk-narrow : (p : Path) (x : ℕ) → Walk l x p → (i : ℕ) (h : Hop) → i < length p → getD p i h .label < 256
+module _ {version : ℕ} {l : Graph} (narrow : Narrow version l) where
+  walk-narrow : (p : Path) (x : ℕ) → Walk l x p → (i : ℕ) (h : Hop) → i < length p → getD p i h .label < 256 ^ labelWidth version
   unfolding Walk
   walk-narrow [] x k i h o = absurd (not-suc-le-zero o)
   walk-narrow (g ∷ p) x (e, k) zero h o = narrow .label x (g .label) (g .to) e
   walk-narrow (g ∷ p) x (e, k) (suc i) h o = walk-narrow p (g .to) k i h (le-of-suc-le-suc o)
 
   module _ (v : View) (c : ℕ) (w : Route) (n : Numbered (v .to) c w) (small : c ≤ 4) where
-    numbered-passable : ((i : ℕ) → i < w .len → getD (v .labels) (getD (w .links) i 0) 0 < 256) → Passable (v .labels) (v .to) w
+    numbered-passable : ((i : ℕ) → i < w .len → getD (v .labels) (getD (w .links) i 0) 0 < 256 ^ labelWidth version) → Passable version (v .labels) (v .to) w
     numbered-passable f =
         record { numbered = record { short = omega (arith, n .short); links = n .links; below = n .below; low = n .low }; narrow = f }
 
-    walk-passable : (x : ℕ) → Walk l x (pathIn v w) → Passable (v .labels) (v .to) w
+    walk-passable : (x : ℕ) → Walk l x (pathIn v w) → Passable version (v .labels) (v .to) w
     walk-passable x k =
         numbered-passable
         (λ i o.
@@ -58,14 +59,14 @@ module _ {l : Graph} (narrow : Narrow l) where
     fails : Fails l r c z a b (reasonOf v s)
     fails = answer-fails l r z v u rows ea eb a b c s w d n
 
-    link-passable : s .kind ≡ 4 → Passable (v .labels) (v .to) (s .first)
+    link-passable : s .kind ≡ 4 → Passable version (v .labels) (v .to) (s .first)
     link-passable e =
         let f = rw (reason-link v s e) at fails in
         let (t, o, _) = w .one e in
         numbered-passable v 1 (s .first) t (omega arith)
         (λ i m. let j : i ≡ 0 = omega arith in rw j (narrow .label a _ _ (f .there)))
 
-    paths-passable : 5 ≤ s .kind → Passable (v .labels) (v .to) (s .first) × Passable (v .labels) (v .to) (s .second)
+    paths-passable : 5 ≤ s .kind → Passable version (v .labels) (v .to) (s .first) × Passable version (v .labels) (v .to) (s .second)
     paths-passable h =
         let (t, t′) = w .two h in
         ⊎-elim
@@ -75,7 +76,7 @@ module _ {l : Graph} (narrow : Narrow l) where
         let f = rw (reason-same v s e) at fails in (walk-passable v c (s .first) t small a (f .walk), walk-passable v c (s .second) t′ small a (f .walk′)))
         (eq-or-lt-of-le (w .known n .1))
 
-    pub answer-puttable : Puttable (v .labels) (v .to) s
+    pub answer-puttable : Puttable version (v .labels) (v .to) s
     answer-puttable =
         record {
           known = w .known n;

@@ -6,8 +6,9 @@ ghost use lib.ListN.{length};
 ghost use Rattle.compare_entries.specs.Growing.{Roomy, sideOf, Conjoins, NameFits, Names};
 ghost use Rattle.sheet_writer.specs.Writing.{PutEntry};
 ghost use Rattle.compare_laws.specs.Comparison.{reasonEntry};
-ghost use Rattle.compare_laws.specs.Room.{reasonBytes};
-ghost use Rattle.compare_entries.specs.Parting.{listed, lists, causeIn, Passable, Spells, Puttable, Denies, PartFits, Parted};
+ghost use Rattle.compare_laws.specs.Room.{reasonBytes, deniedBytes};
+ghost use Rattle.search.specs.Reasons.{Numbered};
+ghost use Rattle.compare_entries.specs.Parting.{listed, lists, causeIn, Spells, Puttable, Denies, PartFits, Parted};
 use book::LeftCell;
 use book::RightCell;
 use search::Reason;
@@ -19,10 +20,11 @@ const LEFT: u8 = 0;
 
 const RIGHT: u8 = 64;
 
-// Where the next entry of a sheet goes, and its number.
+// Where the next entry of a sheet goes, its number, and the version of the sheet.
 pub struct Pen {
     pub at: usize,
     pub next: u16,
+    pub version: u8,
 }
 
 // Adds question d to what describes the cell at place x of the numbers: writes "old and d" where the old entry is not always true (0), else d serves
@@ -44,6 +46,7 @@ fn describe(room: &mut [u8], pen: Pen, numbers: &mut [u16; 128], x: u8, d: Quest
     Pen {
         at: end,
         next: next + 1,
+        version: pen.version,
     }
 }
 
@@ -70,7 +73,7 @@ fn name_pair(
 
 // The steps of a way: their labels, and the questions at the cells that they lead to.
 pub struct Way {
-    pub labels: [u8; 4],
+    pub labels: [u16; 4],
     pub tests: [u16; 4],
 }
 
@@ -82,18 +85,18 @@ fn way_along(
     base: u8,
     path: Route,
 ) -> Way
-    requires { ⌜ Passable (now labels) (now to) path × (base ≤ 64) ⌝ }
+    requires { ⌜ Numbered (now to) 4 path × (base ≤ 64) ⌝ }
     ensures { λ r. ⌜ Spells (now (labels .entry)) (now (to .entry)) (sideOf base (now (numbers .entry))) path r ⌝ }
 {
     let links = path.links;
     let n = path.len as usize;
-    let mut names = [0u8; 4];
+    let mut names = [0u16; 4];
     let mut tests = [0u16; 4];
     let mut i = 0;
     while i < n {
         let k = links[i];
         let x = base + search_links::target(to, k);
-        names[i] = search_links::label(labels, k) as u8;
+        names[i] = search_links::label(labels, k);
         tests[i] = numbers[x as usize];
         i += 1;
     }
@@ -107,21 +110,22 @@ fn way_along(
 fn put_reason(
     room: &mut [u8],
     at: usize,
+    version: u8,
     labels: &[u16; 512],
     to: &[u8; 512],
     numbers: &[u16; 128],
     base: u8,
     why: Reason,
 ) -> usize
-    requires { ⌜ Puttable (now labels) (now to) why × (base ≤ 64) × (at + reasonBytes 1 ≤ length (now room)) ⌝ }
-    ensures { λ r. ⌜ PutEntry (now (room .entry)) at (reasonEntry (sideOf base (now (numbers .entry))) (listed (now (labels .entry)) (now (to .entry)) why)) (now (room .exit)) r ⌝ }
+    requires { ⌜ Puttable version (now labels) (now to) why × (base ≤ 64) × (at + reasonBytes version ≤ length (now room)) ⌝ }
+    ensures { λ r. ⌜ PutEntry version (now (room .entry)) at (reasonEntry (sideOf base (now (numbers .entry))) (listed (now (labels .entry)) (now (to .entry)) why)) (now (room .exit)) r ⌝ }
 {
     let first = why.first;
     let p = way_along(labels, to, numbers, base, first);
     let names = p.labels;
     let tests = p.tests;
     if why.kind == sheet::KIND_WAY {
-        return sheet_writer::put_way(room, at, &names, &tests, first.len);
+        return sheet_writer::put_way(room, at, version, &names, &tests, first.len);
     }
     let second = why.second;
     let q = way_along(labels, to, numbers, base, second);
@@ -130,6 +134,7 @@ fn put_reason(
     sheet_writer::put_comparison(
         room,
         at,
+        version,
         why.kind,
         &names,
         &tests,
@@ -150,15 +155,17 @@ fn put_denied(
     base: u8,
     why: Reason,
 ) -> Pen
-    requires { ⌜ Puttable (now labels) (now to) why × (base ≤ 64) × Roomy (now room) pen 32 2 ⌝ }
+    requires { ⌜ Puttable (pen .version) (now labels) (now to) why × (base ≤ 64) × Roomy (now room) pen (deniedBytes (pen .version)) 2 ⌝ }
     ensures { λ r. ⌜ Denies (now (room .entry)) (now (room .exit)) pen r (reasonEntry (sideOf base (now (numbers .entry))) (listed (now (labels .entry)) (now (to .entry)) why)) ⌝ }
 {
     let next = pen.next;
-    let mid = put_reason(room, pen.at, labels, to, numbers, base, why);
+    let version = pen.version;
+    let mid = put_reason(room, pen.at, version, labels, to, numbers, base, why);
     let end = sheet_writer::put_not(room, mid, Question(next));
     Pen {
         at: end,
         next: next + 2,
+        version,
     }
 }
 

@@ -3,9 +3,9 @@
 -- for a pair that is judged, and that there is room for it.
 use mathlib.Core.Bool.{Bool, true, false, So, false≢true}
 use mathlib.Core.Logic.{⊎-elim, _≢_}
-use mathlib.Core.Path.{_≡_, refl, sym, _∙_, subst}
+use mathlib.Core.Path.{_≡_, refl, sym, ap, _∙_, subst}
 use Prim.Native.Nat.{ℕ, zero, suc, _+_, _*_, _/_, _%_, _<_, _≤_}
-use native.Mathlib.Nat.{le-refl, div-add-mod', mod-lt, mul-le-mul, mul-le-mul-right, mul-zero}
+use native.Mathlib.Nat.{le-refl, div-add-mod', mod-lt, mul-le-mul, mul-le-mul-left, mul-le-mul-right, mul-zero}
 use native.Mathlib.Omega.{arith}
 use borrow.Author.Tests.{eqb-true, eq-eqb}
 use lib.ListN.{length}
@@ -21,7 +21,7 @@ use Rattle.compare_laws.specs.Places.{placed}
 use Rattle.compare_laws.specs.PlaceLaws.{nonzeros-most, place-below}
 use Rattle.compare_laws.specs.Setting.{Setting, pairs, relationAfter}
 use Rattle.compare_laws.specs.Room.{pairEntries, pairBytes, roomNeeded}
-use Rattle.compare_laws.specs.Comparison.{State, ahead, back, verdict, obey, settle, upto, states, stateAt, comparison}
+use Rattle.compare_laws.specs.Comparison.{State, begin, turned, ahead, back, verdict, obey, settle, upto, states, stateAt, comparison}
 use Rattle.compare_laws.specs.Refining.{Comparable, Refined, Compared}
 use Rattle.compare_laws.specs.StepLaws.{place-over, place-under, verdict-left, verdict-right, kept-clauses, settle-stays, stays-refined, shares-related, zero-related, zero-spare}
 use Rattle.compare_laws.specs.WritingLaws.{part-refined}
@@ -152,8 +152,8 @@ module _ {s : Setting} (g : Comparable s) where
       zero-few =
           omega (arith, zero-spare g refined-here o u h, refined-here .few, mul-le-mul (g .small .0) (g .small .1))
 
-      pub zero-room : length (encode (stateAt s k p .entries)) + pairBytes (s .version) + 8 ≤ roomNeeded (s .version) (pairs s)
-      zero-room = omega (arith, zero-spare g refined-here o u h, refined-here .room)
+      pub zero-room : length (encode (s .version) (stateAt s k p .entries)) + pairBytes (s .version) + 8 ≤ roomNeeded (s .version) (pairs s)
+      zero-room = omega (arith, mul-le-mul-left (pairBytes (s .version)) (zero-spare g refined-here o u h), refined-here .room)
 
   -- the places passed hold 0 in one state of a round as in another
   pub zero-still : (k a b p q : ℕ) → p ≤ pairs s → q ≤ pairs s → a < s .left .size → b < s .right .size
@@ -161,3 +161,24 @@ module _ {s : Setting} (g : Comparable s) where
       → placed (s .right .size) (stateAt s k q .map) a b ≡ 0
   zero-still k a b p q hp hq o u i j z =
       eqb-true _ 0 (state-refined k q hq .settled a b o u j ∙ sym (state-refined k p hp .settled a b o u i) ∙ eq-eqb _ 0 z)
+
+-- ---- the version
+
+-- what is compared does not depend on the version of the sheet that it is written in
+module _ (s : Setting) (v : ℕ) where
+  abbrev written : Setting
+  written = record { left = s .left; right = s .right; sides = s .sides; bound = s .bound; version = v }
+
+  upto-any : (z : Relation) (p : ℕ) (now : State) → upto s z p now ≡ upto written z p now
+  unfolding upto settle verdict
+  upto-any z zero now = refl
+  upto-any z (suc p) now = ap (settle s z (p / s .right .size) (p % s .right .size)) (upto-any z p now)
+
+  states-any : (k : ℕ) → states s k ≡ states written k
+  unfolding states begin
+  states-any zero = refl
+  states-any (suc k) =
+      ap turned (upto-any (relationAfter s k) (pairs s) (states s k) ∙ ap (upto written (relationAfter s k) (pairs s)) (states-any k))
+
+  pub comparison-any : comparison s ≡ comparison written
+  comparison-any = states-any (pairs s)

@@ -14,7 +14,7 @@ use Rattle.theory.specs.Rounds.{related, settled}
 use Rattle.theory.specs.Parting.{Parts, Describes, Described, Fails}
 use Rattle.theory.specs.Choosing.{Symmetric}
 use Rattle.sheet.specs.Entry.{Entry, expression}
-use Rattle.sheet.specs.Sheet.{mostBound}
+use Rattle.sheet.specs.Sheet.{mostVersion, mostBound}
 use Rattle.sheet.specs.Encoding.{encode}
 use Rattle.compare_laws.specs.Places.{placed, unparted, unpartedBefore, nonzeros}
 use Rattle.compare_laws.specs.Setting.{Setting, swapped, pairs, relationAfter}
@@ -28,7 +28,8 @@ use Rattle.compare_laws.specs.Entries.{Sheet, Grows, Narrow}
 pub record Comparable (s : Setting) : Type 0 where
   pub formed : WellFormed (s .left) × WellFormed (s .right)
   pub symmetric : Symmetric (s .left) × Symmetric (s .right)
-  pub narrow : Narrow (s .left) × Narrow (s .right)
+  pub narrow : Narrow (s .version) (s .left) × Narrow (s .version) (s .right)
+  pub version : (1 ≤ s .version) × (s .version ≤ mostVersion)
   pub some : (1 ≤ s .left .size) × (1 ≤ s .right .size)
   pub small : (s .left .size ≤ 64) × (s .right .size ≤ 64)
   pub bound : s .bound ≤ mostBound
@@ -66,9 +67,9 @@ pub record Named (s : Setting) (es : List Entry) (a b i : ℕ) : Type 0 where
 pub record Refined (s : Setting) (k p : ℕ) (now : State) : Type 0 where
   -- the state is the one that the definition has there
   pub is : now ≡ stateAt s k p
-  pub sheet : Sheet (s .bound) (now .entries)
+  pub sheet : Sheet (s .version) (s .bound) (now .entries)
   pub few : length (now .entries) ≤ 1 + pairEntries * nonzeros (now .map)
-  pub room : length (encode (now .entries)) ≤ 2 + pairBytes (s .version) * nonzeros (now .map)
+  pub room : length (encode (s .version) (now .entries)) ≤ 2 + pairBytes (s .version) * nonzeros (now .map)
   pub size : length (now .map) ≡ pairs s
   -- the places before p are as round k + 1 leaves them, the others as round k did
   pub settled : (a b : ℕ) → a < s .left .size → b < s .right .size → a * s .right .size + b < p → unparted (s .right .size) (now .map) a b ≡ relationAfter s (suc k) a b
@@ -93,10 +94,10 @@ pub record Redescribed (s : Setting) (d : ℕ) (z : Relation) (es : List Entry) 
 
 -- What a step for the pair (a, b) in round k + 1 has to leave: a new entry i that parts it, and a and b described without it.
 pub record Written (s : Setting) (k a b : ℕ) (now next : State) (i : ℕ) : Type 0 where
-  pub sheet : Sheet (s .bound) (next .entries)
+  pub sheet : Sheet (s .version) (s .bound) (next .entries)
   pub grows : Grows (now .entries) (next .entries)
   pub few : length (next .entries) ≤ length (now .entries) + pairEntries
-  pub room : length (encode (next .entries)) ≤ length (encode (now .entries)) + pairBytes (s .version)
+  pub room : length (encode (s .version) (next .entries)) ≤ length (encode (s .version) (now .entries)) + pairBytes (s .version)
   pub map : next .map ≡ set (now .map) (a * s .right .size + b) i
   pub fresh : length (now .entries) ≤ i
   pub number : i < length (next .entries)
@@ -114,9 +115,9 @@ pub record Written (s : Setting) (k a b : ℕ) (now next : State) (i : ℕ) : Ty
 pub record Compared (s : Setting) (es : List Entry) (map : List ℕ) : Type 0 where
   pub entries : es ≡ comparison s .entries
   pub places : map ≡ comparison s .map
-  pub sheet : Sheet (s .bound) es
+  pub sheet : Sheet (s .version) (s .bound) es
   pub few : length es ≤ 1 + pairEntries * nonzeros map
-  pub room : length (encode es) ≤ 2 + pairBytes (s .version) * nonzeros map
+  pub room : length (encode (s .version) es) ≤ 2 + pairBytes (s .version) * nonzeros map
   pub size : length map ≡ pairs s
   pub zeros : (a b : ℕ) → a < s .left .size → b < s .right .size → (placed (s .right .size) map a b ≡ 0) ↔ So (related (settled (s .sides) (s .left) (s .right) (s .bound)) a b)
   pub number : (a b : ℕ) → a < s .left .size → b < s .right .size → placed (s .right .size) map a b ≢ 0 → placed (s .right .size) map a b < length es

@@ -28,7 +28,7 @@ use Rattle.compare_laws.specs.Refining.{Comparable, DescribedBy, Refined
 use Rattle.compare_laws.specs.StepLaws.{described-more, kept-clauses, settle-stays}
 
 -- entry 0 describes every node, for a relation of all
-zeros-describe : {s : Setting} {d : ℕ} {z : Relation} {es : List Entry} → Sheet (s .bound) es → s .left .size ≤ 64
+zeros-describe : {s : Setting} {d : ℕ} {z : Relation} {es : List Entry} → Sheet (s .version) (s .bound) es → s .left .size ≤ 64
     → ((x y : ℕ) → x < s .left .size → y < s .right .size → So (z x y)) → DescribedBy s d z es (replicate 64 0)
 zeros-describe t small f =
     record {
@@ -81,7 +81,7 @@ module _ {s : Setting} (g : Comparable s) where
   begin-refined =
       record {
         is = refl;
-        sheet = sheet-truth (s .bound);
+        sheet = sheet-truth (s .version) (s .bound);
         few = omega arith;
         room = omega arith;
         size = length-replicate _ 0;
@@ -90,10 +90,10 @@ module _ {s : Setting} (g : Comparable s) where
         named = λ x y o u e. absurd (false≢true (sym e ∙ all x y o u));
         began = λ x y o u. simp facts (inl (all x y o u)) ∙ sym (start x y o u);
         from = omega arith;
-        oldLeft = zeros-describe (sheet-truth (s .bound)) (g .small .0) start;
-        oldRight = λ _. zeros-describe {s = swapped s} (sheet-truth (s .bound)) (g .small .1) (λ y x u o. start x y o u);
-        newLeft = zeros-describe (sheet-truth (s .bound)) (g .small .0) all;
-        newRight = λ _. zeros-describe {s = swapped s} (sheet-truth (s .bound)) (g .small .1) (λ y x u o. all x y o u);
+        oldLeft = zeros-describe (sheet-truth (s .version) (s .bound)) (g .small .0) start;
+        oldRight = λ _. zeros-describe {s = swapped s} (sheet-truth (s .version) (s .bound)) (g .small .1) (λ y x u o. start x y o u);
+        newLeft = zeros-describe (sheet-truth (s .version) (s .bound)) (g .small .0) all;
+        newRight = λ _. zeros-describe {s = swapped s} (sheet-truth (s .version) (s .bound)) (g .small .1) (λ y x u o. all x y o u);
       }
     where
       all : (x y : ℕ) → x < s .left .size → y < s .right .size → So (unparted (s .right .size) (replicate (pairs s) 0) x y)

@@ -21,6 +21,7 @@ use Rattle.theory.specs.Parting.{Reason, Describes}
 use Rattle.theory.specs.DescribingLaws.{stays, parts-drop}
 use Rattle.theory.specs.RowLaws.{across}
 use Rattle.sheet.specs.Entry.{Entry}
+use Rattle.compare_laws.specs.Room.{pairBytes}
 use Rattle.compare_laws.specs.Places.{placed, unparted, nonzeros}
 use Rattle.compare_laws.specs.PlaceLaws.{nonzeros-set, nonzeros-most, eq-or-ne, place-below, place-row, place-column, placed-set, placed-other}
 use Rattle.compare_laws.specs.Setting.{Setting, pairs, relationAfter}
@@ -224,7 +225,7 @@ module _ {s : Setting} {k a b : ℕ} {now : State} (g : Comparable s)
           is = next-is next q;
           sheet = t .sheet;
           few = omega (arith, nonzeros-more, inv .few, t .few);
-          room = omega (arith, nonzeros-more, inv .room, t .room);
+          room = omega (arith, ap (λ n. pairBytes (s .version) * n) nonzeros-more, inv .room, t .room);
           size = rw (t .map) (simp length-set (inv .size));
           settled = λ x y o′ u′ h. ⊎-elim
               (λ (p, p′). rw (p, p′, placed-here) (ne-eqb i 0 (λ q. omega (arith, entry-positive)) ∙ sym (parts-drop (s .sides) (s .bound) (g .formed .0) (g .formed .1) (suc k) a b _ (t .parts))))

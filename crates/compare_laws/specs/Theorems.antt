@@ -6,7 +6,7 @@ use mathlib.Core.Logic.{_↔_, _≢_, Iff·trans}
 use mathlib.Core.Path.{_≡_, refl, sym, _∙_}
 use Prim.Native.Nat.{ℕ, _<_, _≤_}
 use native.Mathlib.Omega.{arith}
-use native.Mathlib.Nat.{mul-le-mul}
+use native.Mathlib.Nat.{mul-le-mul, mul-le-mul-left}
 use lib.ListN.{length}
 use Rattle.theory.specs.Expression.{NodeExpr, neg}
 use Rattle.theory.specs.Meaning.{holds}
@@ -21,10 +21,10 @@ use Rattle.theory.specs.Parting.{Simplest}
 use Rattle.sheet.specs.Entry.{Entry, expression}
 use Rattle.sheet.specs.Encoding.{sheetBytes}
 use Rattle.sheet.specs.WrittenLaws.{Writable, written-length}
-use Rattle.compare_laws.specs.Places.{placed, unparted, zeroPairs}
+use Rattle.compare_laws.specs.Places.{placed, unparted, zeroPairs, nonzeros}
 use Rattle.compare_laws.specs.PlaceLaws.{nonzeros-most, among-inside, among-at}
 use Rattle.compare_laws.specs.Setting.{Setting, pairs}
-use Rattle.compare_laws.specs.Room.{roomNeeded}
+use Rattle.compare_laws.specs.Room.{pairBytes, roomNeeded}
 use Rattle.compare_laws.specs.Refining.{Comparable, Compared}
 
 module _ {s : Setting} {es : List Entry} {map : List ℕ} (g : Comparable s) (t : Compared s es map) where
@@ -79,9 +79,10 @@ module _ {s : Setting} {es : List Entry} {map : List ℕ} (g : Comparable s) (t 
 
 module _ {s : Setting} {es : List Entry} {map : List ℕ} (g : Comparable s) (t : Compared s es map) where
   -- Between graphs of at most 64 nodes a sheet can hold the entries (and so is accepted: `WrittenLaws` of the crate `sheet`),
-  pub compared-writable : Writable (s .bound) es
+  pub compared-writable : Writable (s .version) (s .bound) es
   compared-writable =
       record {
+        version = g .version;
         bounded = g .bound;
         some = t .sheet .some;
         few = omega (arith, t .few, nonzeros-most map, t .size, mul-le-mul (g .small .0) (g .small .1));
@@ -90,5 +91,7 @@ module _ {s : Setting} {es : List Entry} {map : List ℕ} (g : Comparable s) (t 
       }
 
   -- and it has room in the bytes that 01 asks for.
-  pub compared-room : length (sheetBytes (s .bound) es) ≤ roomNeeded (s .version) (pairs s)
-  compared-room = omega (arith, t .room, nonzeros-most map, t .size, written-length compared-writable)
+  pub compared-room : length (sheetBytes (s .version) (s .bound) es) ≤ roomNeeded (s .version) (pairs s)
+  compared-room =
+      let n : nonzeros map ≤ pairs s = omega (arith, nonzeros-most map, t .size) in
+      omega (arith, mul-le-mul-left (pairBytes (s .version)) n, t .room, written-length compared-writable)

@@ -32,10 +32,10 @@ use Rattle.compare_laws.specs.StepLaws.{describes-more, described-more, 
 
 -- "i and j" is written, and describes x.
 record Conjoined (s : Setting) (d : ℕ) (z : Relation) (x : ℕ) (es : List Entry) (i j : ℕ) : Type 0 where
-  sheet : Sheet (s .bound) (conjoined es i j)
+  sheet : Sheet (s .version) (s .bound) (conjoined es i j)
   grows : Grows es (conjoined es i j)
   few : length (conjoined es i j) ≤ length es + 1
-  room : length (encode (conjoined es i j)) ≤ length (encode es) + 6
+  room : length (encode (s .version) (conjoined es i j)) ≤ length (encode (s .version) es) + 6
   here : (xs : List ℕ) → Redescribed s d z (conjoined es i j) xs (set xs x (conjoint es i j)) x
 
 -- what parts x from b describes x among b alone
@@ -70,7 +70,7 @@ module _ {s : Sides} {l r : Graph} {c d x b : ℕ} {z : Relation} (z′ : Relati
       }
 
 module _ {s : Setting} {d x b : ℕ} {z : Relation} (z′ : Relation) (less : (y : ℕ) → y < s .right .size → y ≢ b → So (z x y) → So (z′ x y)) where
-  conjoined-describes : {es : List Entry} (i j : ℕ) → Sheet (s .bound) es → i < length es → j < length es
+  conjoined-describes : {es : List Entry} (i j : ℕ) → Sheet (s .version) (s .bound) es → i < length es → j < length es
       → DescribesNode s d z x (λ y. y < s .right .size) (expression es i) → PartsPair s d x b (expression es j) → Conjoined s d z′ x es i j
   unfolding conjoined conjoint spell sizeOf
   conjoined-describes {es} zero j w h h′ t p =
@@ -87,7 +87,7 @@ module _ {s : Setting} {d x b : ℕ} {z : Relation} (z′ : Relation) (less : (y
         sheet = sheet-snoc w e (fit-conjunction h h′);
         grows = grows-append es (e ∷ []);
         few = omega (arith, length-snoc es e);
-        room = omega (arith, length-encode-snoc es e);
+        room = omega (arith, length-encode-snoc (s .version) es e);
         here = λ xs. record {
           entry = length es;
           is = refl;
@@ -99,17 +99,17 @@ module _ {s : Setting} {d x b : ℕ} {z : Relation} (z′ : Relation) (less : (y
 -- ---- an entry and its denial
 
 -- They are written.
-record Denied (c : ℕ) (es : List Entry) (e : Entry) : Type 0 where
-  sheet : Sheet c (withDenial es e)
+record Denied (v c : ℕ) (es : List Entry) (e : Entry) : Type 0 where
+  sheet : Sheet v c (withDenial es e)
   grows : Grows es (withDenial es e)
   many : length (withDenial es e) ≡ length es + 2
-  room : length (encode (withDenial es e)) ≡ length (encode es) + (sizeOf e + 4)
+  room : length (encode v (withDenial es e)) ≡ length (encode v es) + (sizeOf v e + 4)
   first : expression (withDenial es e) (length es) ≡ spell (expressions es) e
   second : expression (withDenial es e) (suc (length es)) ≡ neg (spell (expressions es) e)
 
-withDenial-denied : {c : ℕ} {es : List Entry} (e : Entry) → Sheet c es → Fit c (length es) e → Denied c es e
+withDenial-denied : {v c : ℕ} {es : List Entry} (e : Entry) → Sheet v c es → Fit v c (length es) e → Denied v c es e
 unfolding withDenial spell sizeOf
-withDenial-denied {c} {es} e w f =
+withDenial-denied {v} {c} {es} e w f =
     let es′ = es ++ (e ∷ []) in
     let d = negation (length es) in
     let n = length-snoc es e in
@@ -117,20 +117,20 @@ withDenial-denied {c} {es} e w f =
       sheet = sheet-snoc (sheet-snoc w e f) d (fit-negation (omega arith));
       grows = grows-trans (grows-append es (e ∷ [])) (grows-append es′ (d ∷ []));
       many = omega (arith, length-snoc es′ d);
-      room = omega (arith, length-encode-snoc es′ d, length-encode-snoc es e);
+      room = omega (arith, length-encode-snoc v es′ d, length-encode-snoc v es e);
       first = expression-front es′ (d ∷ []) (length es) (omega arith) ∙ expression-last es e;
       second = rw (← n) (rw (expression-last es′ d) (ap neg (expression-last es e)));
     }
 
 -- The entry may stand after es, is not too long, and parts a from b.
 record Puts (s : Setting) (d a b : ℕ) (es : List Entry) (e : Entry) : Type 0 where
-  fit : Fit (s .bound) (length es) e
-  size : sizeOf e ≤ reasonBytes (s .version)
+  fit : Fit (s .version) (s .bound) (length es) e
+  size : sizeOf (s .version) e ≤ reasonBytes (s .version)
   parts : PartsPair s d a b (spell (expressions es) e)
 
 -- So does the entry that puts a reason.
-reasonEntry-puts : {s : Setting} {k a b : ℕ} {z : Relation} {es : List Entry} {xs : List ℕ} → WellFormed (s .left) → Narrow (s .left) → s .bound ≤ mostBound
-    → a < s .left .size → Sheet (s .bound) es → DescribedBy s k z es xs → (why : Reason) → Fails (s .left) (s .right) (s .bound) z a b why
+reasonEntry-puts : {s : Setting} {k a b : ℕ} {z : Relation} {es : List Entry} {xs : List ℕ} → WellFormed (s .left) → Narrow (s .version) (s .left) → s .bound ≤ mostBound
+    → a < s .left .size → Sheet (s .version) (s .bound) es → DescribedBy s k z es xs → (why : Reason) → Fails (s .left) (s .right) (s .bound) z a b why
     → Puts s (suc k) a b es (reasonEntry xs why)
 reasonEntry-puts {s} {k} {a} {b} {z} {es} {xs} w narrow small o sheet t why f =
     record {
@@ -144,7 +144,7 @@ reasonEntry-puts {s} {k} {a} {b} {z} {es} {xs} w narrow small o sheet t why f =
 module _ {s : Setting} {k a b : ℕ} {now : State} (g : Comparable s) (inv : Refined s k (a * s .right .size + b) now) (o : a < s .left .size)
     (u : b < s .right .size) (e : So (relationAfter s k a b)) where
   -- an entry and its denial, of which i parts a from b and j parts b from a
-  write-refined : (d : Entry) (i j : ℕ) → Denied (s .bound) (now .entries) d → sizeOf d ≤ reasonBytes (s .version) → length (now .entries) ≤ i
+  write-refined : (d : Entry) (i j : ℕ) → Denied (s .version) (s .bound) (now .entries) d → sizeOf (s .version) d ≤ reasonBytes (s .version) → length (now .entries) ≤ i
       → i < length (now .entries) + 2 → j < length (now .entries) + 2
       → PartsPair s (suc k) a b (expression (withDenial (now .entries) d) i)
       → PartsPair (swapped s) (suc k) b a (expression (withDenial (now .entries) d) j)

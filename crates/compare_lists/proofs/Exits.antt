@@ -1,14 +1,15 @@
 -- What each function of the crate shows of the definitions of `specs/`, in the form in which `search` finds it.
 use mathlib.Core.List.{List}
-use mathlib.Core.Path.{_≡_, refl, ap, _∙_}
+use mathlib.Core.Path.{_≡_, refl, sym, ap, _∙_}
 use Prim.Native.Nat.{ℕ, _≤_}
 use native.Mathlib.Omega.{arith}
+use borrow.Author.Tests.{eq-eqb, ne-eqb}
 use mir.Syntax.{w8}
 use mir.Val.{Fits}
 use lib.ListN.{length, getD, replicate}
 use lib.Seq.{length-sets}
 use Rattle.theory.specs.Graph.{same, differ}
-use Rattle.book.specs.Book.{cellsOf, linksOf, bookRefusal}
+use Rattle.book.specs.Book.{versionOf, cellsOf, linksOf, bookRefusal}
 use Rattle.book.specs.AcceptedLaws.{book-sizes}
 use Rattle.edges.specs.BookEdges.{Loaded, passing}
 use Rattle.search_links.specs.Hops.{Starts}
@@ -16,14 +17,14 @@ use Rattle.search_links.specs.Sets.{Paired}
 use Rattle.sheet.specs.Entry.{truth}
 use Rattle.sheet.specs.Encoding.{encodeEntry}
 use Rattle.sheet.specs.WrittenLaws.{sizeOf}
-use Rattle.sheet_writer.specs.Writing.{PutEntry}
+use Rattle.sheet_writer.specs.Writing.{PutPlain}
 use Rattle.sheet_writer.specs.WritingLaws.{holding-none, holding-next, kept-after}
 use Rattle.search.specs.BookReasonLaws.{read-charted}
 use Rattle.compare_laws.specs.Comparison.{begin, upto, states}
 use Rattle.compare_entries.specs.declared.Pen.{Pen}
 use Rattle.compare_pair.specs.Settling.{chart, Ground, Standing}
 use Rattle.compare_rounds.specs.Turns.{atRest, Opens, Refines}
-use Rattle.compare_lists.specs.BookSetting.{settingOf}
+use Rattle.compare_lists.specs.BookSetting.{sheetVersion, settingOf}
 use Rattle.compare_lists.specs.Laws.{books-comparable}
 use Rattle.compare_lists.specs.Comparing.{IsRead, Lent, Started, Fills}
 
@@ -36,15 +37,35 @@ read-whole s fs ls ts starts ends alike unlike count r d n t a u p =
 
 -- ---- the first entry
 
-module _ {map map′ room room′ : List ℕ} {at : ℕ} where
-  pub started : 10 ≤ length room → map′ ≡ replicate (length map) 0 → PutEntry room 8 truth room′ at → Started map map′ room room′ (record { at = at; next = 1 })
+module _ {map map′ room room′ : List ℕ} {at v : ℕ} where
+  pub started : 10 ≤ length room → map′ ≡ replicate (length map) 0 → PutPlain room 8 truth room′ at → Started v map map′ room room′ (record { at = at; next = 1; version = v })
   unfolding sizeOf
   started h b w =
       record {
         blank = b;
-        penned = record { held = holding-next (holding-none room (omega arith)) truth w (omega arith); number = refl };
-        behind = record { size = ap length (w .left) ∙ length-sets room 8 (encodeEntry truth); kept = kept-after (holding-none room (omega arith)) truth w (omega arith) };
+        penned = record { held = holding-next (holding-none v room (omega arith)) truth (w .any v) (omega arith); number = refl };
+        version = refl;
+        behind = record {
+          size = ap length (w .any v .left) ∙ length-sets room 8 (encodeEntry v truth);
+          kept = kept-after (holding-none v room (omega arith)) truth (w .any v) (omega arith);
+        };
       }
+
+-- ---- the version of the sheet
+
+module _ (left right : List ℕ) (v : ℕ) (d : v ≡ versionOf left) where
+  pub left-wide : v ≡ 2 → 2 ≡ sheetVersion left right
+  unfolding sheetVersion
+  left-wide e = rw (eq-eqb (versionOf left) 2 (sym d ∙ e))
+
+  module _ (f : v ≡ 2 → ⊥) (w : ℕ) (dw : w ≡ versionOf right) where
+    pub right-wide : w ≡ 2 → 2 ≡ sheetVersion left right
+    unfolding sheetVersion
+    right-wide e = rw (ne-eqb (versionOf left) 2 (λ q. f (d ∙ q)), eq-eqb (versionOf right) 2 (sym dw ∙ e))
+
+    pub both-narrow : (w ≡ 2 → ⊥) → 1 ≡ sheetVersion left right
+    unfolding sheetVersion
+    both-narrow g = rw (ne-eqb (versionOf left) 2 (λ q. f (d ∙ q)), ne-eqb (versionOf right) 2 (λ q. g (dw ∙ q)))
 
 -- ---- the comparison
 
@@ -70,7 +91,7 @@ module _ {left right : List ℕ} {c : ℕ} {map room : List ℕ} (given : Lent l
         bound = refl;
       }
 
-  module _ {map′ room′ : List ℕ} {pen : Pen} (first : Started map map′ room room′ pen) where
+  module _ {map′ room′ : List ℕ} {pen : Pen} {v : ℕ} (d : v ≡ sheetVersion left right) (first : Started v map map′ room room′ pen) where
     standing : Standing (settingOf left right c) 0 0 (atRest room′ pen map′ (replicate 128 0))
     unfolding upto states begin
     standing =
@@ -83,6 +104,7 @@ module _ {left right : List ℕ} {c : ℕ} {map room : List ℕ} (given : Lent l
             newLeft = refl;
             newRight = refl;
           };
+          version = first .version ∙ d;
           wide = refl;
           roomy = rw (first .behind .size) (given .roomy);
         }

@@ -1,11 +1,17 @@
 -- The setting of a comparison of two books.
+use mathlib.Core.Bool.{cond, _||_}
 use mathlib.Core.List.{List}
 use Prim.Native.Nat.{ℕ}
+use lib.Dec.{eqb}
 use Rattle.theory.specs.Bisimulation.{twoSided}
+use Rattle.book.specs.Book.{versionOf}
 use Rattle.book.specs.BookGraph.{graphOf}
-use Rattle.sheet.specs.Entry.{onlyVersion}
 use Rattle.compare_laws.specs.Setting.{Setting}
 
--- The graphs of the two books, both sides, the bound, and a sheet of the one version that there is.
+-- "Compare writes version 2 if either book is version 2" (02, 2026-02).
+unfoldable pub sheetVersion : List ℕ → List ℕ → ℕ
+sheetVersion l r = cond (eqb (versionOf l) 2 || eqb (versionOf r) 2) 2 1
+
+-- The graphs of the two books, both sides, the bound, and the version of the sheet.
 abbrev pub settingOf : List ℕ → List ℕ → ℕ → Setting
-settingOf l r c = record { left = graphOf l; right = graphOf r; sides = twoSided; bound = c; version = onlyVersion }
+settingOf l r c = record { left = graphOf l; right = graphOf r; sides = twoSided; bound = c; version = sheetVersion l r }

@@ -1,22 +1,27 @@
 -- Two accepted books can be compared: what the definition of the comparison asks of their graphs.
-use mathlib.Core.Bool.{true, false≢true}
+use mathlib.Core.Bool.{Bool, true, false, cond, _||_, false≢true}
 use mathlib.Core.List.{List}
 use mathlib.Core.Logic.{⊎-elim}
 use mathlib.Core.Path.{_≡_, refl}
-use Prim.Native.Nat.{ℕ, zero, suc, _+_, _≤_, _<_}
+use Prim.Native.Nat.{ℕ, zero, suc, _^_, _≤_, _<_}
+use native.Mathlib.Omega.{arith}
+use borrow.Author.Tests.{eq-eqb}
+use lib.Dec.{eqb}
 use Rattle.fields.specs.Fields.{Bytes}
-use Rattle.fields.specs.Laws.{field-lt}
+use Rattle.fields.specs.Label.{labelWidth}
+use Rattle.fields.specs.LabelLaws.{label-width}
 use Rattle.theory.specs.Search.{list}
 use Rattle.theory.specs.TestLaws.{facts}
 use Rattle.theory.specs.Graph.{Link, has}
-use Rattle.book.specs.Book.{linksOf, labelWidth, linkIn, linkAt, linkPlace, bookRefusal}
+use Rattle.book.specs.Book.{versionOf, linksOf, linkAt, bookRefusal}
 use Rattle.book.specs.BookGraph.{graphOf}
 use Rattle.book.specs.AcceptedLaws.{book-sizes, book-graph}
-use Rattle.sheet.specs.Sheet.{mostBound}
+use Rattle.book.specs.VersionLaws.{label-fits}
+use Rattle.sheet.specs.Sheet.{mostVersion, mostBound}
 use Rattle.search.specs.BookReasonLaws.{compared-symmetric}
 use Rattle.compare_laws.specs.Entries.{Narrow}
 use Rattle.compare_laws.specs.Refining.{Comparable}
-use Rattle.compare_lists.specs.BookSetting.{settingOf}
+use Rattle.compare_lists.specs.BookSetting.{sheetVersion, settingOf}
 
 -- a label that all of some links are below
 label-below : (n : ℕ) (f : ℕ → Link) (most : ℕ) → ((i : ℕ) → f i .label < most) → (x a y : ℕ) → has (list n f) x a y ≡ true → a < most
@@ -25,17 +30,54 @@ label-below zero f most h x a y e = absurd (false≢true e)
 label-below (suc n) f most h x a y e =
     ⊎-elim (λ u. let (_, (l, _)) = simp facts at u in rw (← l) (h 0)) (λ u. label-below n (λ i. f (suc i)) most (λ i. h (suc i)) x a y u) (simp facts at e)
 
--- a label of a book's byte has room in a step
-pub narrow : (s : List ℕ) → Bytes s → Narrow (graphOf s)
-unfolding linkAt linkIn labelWidth
-narrow s b = record { label = label-below (linksOf s) (linkAt s) 256 (λ k. field-lt 1 s (linkPlace s k + 1) b) }
+-- ---- the version of the sheet
+
+or-true : (b : Bool) → (b || true) ≡ true
+or-true true = refl
+or-true false = refl
+
+-- one of the versions that there are
+known : (b : Bool) → (1 ≤ cond b 2 1) × (cond b 2 1 ≤ mostVersion)
+known true = (omega arith, omega arith)
+known false = (omega arith, omega arith)
+
+-- which has room for the labels of version v, where v is not above it
+room-for : (v a : ℕ) → 1 ≤ v → v ≤ 2 → (b : Bool) → (v ≡ 2 → b ≡ true) → a < 256 ^ labelWidth v → a < 256 ^ labelWidth (cond b 2 1)
+unfolding labelWidth
+room-for v a p q true f h = label-width v .fits a h
+room-for v a p q false f h =
+    let n : v ≡ 2 → ⊥ = λ e. false≢true (f e) in
+    let e : v ≡ 1 = omega arith in
+    rw e at h
+
+module _ (l r : List ℕ) where
+  pub sheet-known : (1 ≤ sheetVersion l r) × (sheetVersion l r ≤ mostVersion)
+  unfolding sheetVersion
+  sheet-known = known (eqb (versionOf l) 2 || eqb (versionOf r) 2)
+
+  sheet-left : bookRefusal l ≡ 0 → (a : ℕ) → a < 256 ^ labelWidth (versionOf l) → a < 256 ^ labelWidth (sheetVersion l r)
+  unfolding sheetVersion
+  sheet-left e a =
+      let h = book-sizes l e in
+      room-for (versionOf l) a (h .version) (h .latest) (eqb (versionOf l) 2 || eqb (versionOf r) 2) (λ d. rw (eq-eqb (versionOf l) 2 d))
+
+  sheet-right : bookRefusal r ≡ 0 → (a : ℕ) → a < 256 ^ labelWidth (versionOf r) → a < 256 ^ labelWidth (sheetVersion l r)
+  unfolding sheetVersion
+  sheet-right e a =
+      let h = book-sizes r e in
+      room-for (versionOf r) a (h .version) (h .latest) (eqb (versionOf l) 2 || eqb (versionOf r) 2) (λ d. rw (eq-eqb (versionOf r) 2 d) (or-true (eqb (versionOf l) 2)))
+
+-- the labels of a book have room in a sheet that has room for the labels of its version
+narrow : (s : List ℕ) (v : ℕ) → Bytes s → ((a : ℕ) → a < 256 ^ labelWidth (versionOf s) → a < 256 ^ labelWidth v) → Narrow v (graphOf s)
+narrow s v b f = record { label = λ x a y e. f a (label-below (linksOf s) (linkAt s) _ (label-fits s b) x a y e) }
 
 pub books-comparable : (l r : List ℕ) (c : ℕ) → Bytes l → Bytes r → bookRefusal l ≡ 0 → bookRefusal r ≡ 0 → c ≤ mostBound → Comparable (settingOf l r c)
 books-comparable l r c bl br el er h =
     record {
       formed = (book-graph l el, book-graph r er);
       symmetric = (compared-symmetric _, compared-symmetric _);
-      narrow = (narrow l bl, narrow r br);
+      narrow = (narrow l _ bl (sheet-left l r el), narrow r _ br (sheet-right l r er));
+      version = sheet-known l r;
       some = (book-sizes l el .some, book-sizes r er .some);
       small = (book-sizes l el .few, book-sizes r er .few);
       bound = h;

@@ -4,6 +4,7 @@ ghost use mathlib.Core.Path.{_≡_};
 ghost use Prim.Native.Nat.{_≤_};
 ghost use lib.ListN.{length};
 ghost use Rattle.book.specs.Book.{bookRefusal};
+ghost use Rattle.compare_lists.specs.BookSetting.{sheetVersion};
 ghost use Rattle.compare_lists.specs.Comparing.{IsRead, Lent, Started, Fills};
 use compare_entries::Pen;
 use compare_pair::Sizes;
@@ -29,14 +30,32 @@ fn read(
     *ends = search_links::paired(&same, &differ);
 }
 
+// The version of the sheet that a comparison of two books writes.
+pub fn sheet_version(left: &[u8], right: &[u8]) -> u8
+    requires { ⌜ (8 ≤ length (now left)) × (8 ≤ length (now right)) ⌝ }
+    ensures { λ r. ⌜ r ≡ sheetVersion (now (left .entry)) (now (right .entry)) ⌝ }
+{
+    if book::version_of(left) == 2 {
+        return 2;
+    }
+    if book::version_of(right) == 2 {
+        return 2;
+    }
+    1
+}
+
 // Writes the first entry, always true, and clears the map.
-fn begin(map: &mut [u16], room: &mut [u8]) -> Pen
+fn begin(map: &mut [u16], room: &mut [u8], version: u8) -> Pen
     requires { ⌜ 10 ≤ length (now room) ⌝ }
-    ensures { λ r. ⌜ Started (now (map .entry)) (now (map .exit)) (now (room .entry)) (now (room .exit)) r ⌝ }
+    ensures { λ r. ⌜ Started version (now (map .entry)) (now (map .exit)) (now (room .entry)) (now (room .exit)) r ⌝ }
 {
     compare_map::clear_map(map);
     let at = sheet_writer::put_true(room, 8);
-    Pen { at: at, next: 1 }
+    Pen {
+        at,
+        next: 1,
+        version,
+    }
 }
 
 // Compares two accepted books: fills the map, and the room with the sheet's entries behind a header that is still to be written. The answer says where the
@@ -57,12 +76,13 @@ pub fn fill(left: &[u8], right: &[u8], bound: u8, map: &mut [u16], room: &mut [u
     read(right, &mut sb, &mut lb, &mut tb, &mut eb);
     let n = book::cells_of(left);
     let m = book::cells_of(right);
+    let version = sheet_version(left, right);
     let sizes = Sizes {
         left: n,
         right: m,
         bound,
     };
-    let pen = begin(map, room);
+    let pen = begin(map, room, version);
     let mut new = [0u16; 128];
     compare_rounds::refine(
         &sa,

@@ -12,6 +12,7 @@ use Rattle.search.specs.Lengths.{Ready}
 use Rattle.search.specs.Reasons.{Posed, Answered}
 use Rattle.search.specs.Laws.{charted-ready, charted-posed, answer-some, answer-chosen-none}
 use Rattle.search.specs.declared.Reason.{Reason}
+use Rattle.compare_laws.specs.Room.{pairEntries, pairBytes}
 use Rattle.compare_laws.specs.Places.{placed}
 use Rattle.compare_laws.specs.Setting.{Setting, relationAfter}
 use Rattle.compare_laws.specs.Comparison.{Cause, ahead, back, Verdict, remains, partedBy, verdict, obey, stateAt}
@@ -62,29 +63,30 @@ module _ {l r : Chart} {rows columns : List ℕ} {x : Lists} {here : Case} (open
     standing-parted x′ cause e p =
         record {
           shows = rw (next-by (partedBy cause) e) (p .next (s .right .size) (stateAt s k (placeOf here)) at-place (t .shows));
+          version = p .version ∙ t .version;
           wide = p .wide ∙ t .wide;
           roomy = rw (p .onward .size) (t .roomy);
         }
 
     standing-stays : verdict s z (here .left .0) (here .right .0) ≡ remains → Standing s k (suc (placeOf here)) x
     unfolding obey
-    standing-stays e = record { shows = rw (next-by remains e) (t .shows); wide = t .wide; roomy = t .roomy }
+    standing-stays e = record { shows = rw (next-by remains e) (t .shows); version = t .version; wide = t .wide; roomy = t .roomy }
 
     -- there is room for what parts the pair
-    roomy : Roomy (x .room) (x .pen) 44 4
+    roomy : Roomy (x .room) (x .pen) (pairBytes (x .pen .version)) pairEntries
     roomy =
         let p = zero-room (g .ground .comparable) k _ _ (placeOf here) at-place in-left in-right zero in
         let q = zero-few (g .ground .comparable) k _ _ (placeOf here) at-place in-left in-right zero in
         record {
-          inside = omega (arith, p, t .shows .entries .held .place, t .roomy);
+          inside = rw (t .version) (omega (arith, p, rw (t .version) at (t .shows .entries .held .place), t .roomy));
           few = omega (arith, q, t .shows .entries .number);
         }
 
-    fits : (labels to : List ℕ) (why : Reason) → Puttable labels to why → PartFits (x .room) (x .pen) (x .map) (placeOf here) labels to (x .new) (here .left .0) (here .right .0) why
+    fits : (labels to : List ℕ) (why : Reason) → Puttable (s .version) labels to why → PartFits (x .room) (x .pen) (x .map) (placeOf here) labels to (x .new) (here .left .0) (here .right .0) why
     fits labels to why p =
         let here-inside = place-inside (g .ground .comparable) k _ _ (placeOf here) at-place in-left in-right in
         record {
-          puttable = p;
+          puttable = rw (t .version) p;
           roomy = roomy;
           inside = rw (t .shows .places, state-refined (g .ground .comparable) k (placeOf here) (omega (arith, here-inside)) .size) here-inside;
           leftCell = omega (arith, in-left, g .ground .comparable .small .0);

@@ -59,9 +59,10 @@ pub record Round (s : Setting) (k : ℕ) (by : Basis) : Type 0 where
 
 -- ---- where it stands
 
--- The lists that are written show the state before place p of round k + 1, and there is room for what is still to come.
+-- The lists that are written show the state before place p of round k + 1, in the setting's version, and there is room for what is still to come.
 pub record Standing (s : Setting) (k p : ℕ) (x : Lists) : Type 0 where
   pub shows : Shows x (stateAt s k p)
+  pub version : x .pen .version ≡ s .version
   pub wide : length (x .new) ≡ 128
   pub roomy : roomNeeded (s .version) (pairs s) ≤ length (x .room)
 

@@ -48,7 +48,7 @@ module _ (by : Basis) (i j : ℕ) (x : Lists) (o : i < by .sizes .left) (u : j <
       → ((s : Setting) (k : ℕ) → Round s k by → Standing s k p x → stateAt s k q ≡ stateAt s k p) → Goes by p q x x
   idle p q d e f =
       record {
-        next = λ s k g t. record { shows = rw (f s k g t) (t .shows); wide = t .wide; roomy = t .roomy };
+        next = λ s k g t. record { shows = rw (f s k g t) (t .shows); version = t .version; wide = t .wide; roomy = t .roomy };
         onward = onward-none (x .room) (x .pen .at);
       }
 

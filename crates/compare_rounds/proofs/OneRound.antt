@@ -75,6 +75,7 @@ module _ {l r : Chart} {z : Sizes} where
               newLeft = x .newLeft;
               newRight = x .newRight;
             };
+            version = done .version;
             wide = done .wide;
             roomy = done .roomy;
           }
@@ -90,6 +91,7 @@ module _ {l r : Chart} {z : Sizes} where
           record {
             entries = stateAt s k (pairs s) .entries;
             penned = done .shows .entries;
+            version = done .version;
             compared = rw (done .shows .places) (still-last (g .comparable) k (sym ended ∙ e ∙ began));
           }
 

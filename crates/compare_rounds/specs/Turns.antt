@@ -27,6 +27,7 @@ pub record Opens (l r : Chart) (z : Sizes) (x : Lists) : Type 0 where
 pub record Finished (s : Setting) (room : List ℕ) (pen : Pen) (map : List ℕ) : Type 0 where
   pub entries : List Entry
   pub penned : Penned room entries pen
+  pub version : pen .version ≡ s .version
   pub compared : Compared s entries map
 
 -- A round was taken, whatever the setting: the next can begin, and where nothing was written the comparison is done.

@@ -7,7 +7,7 @@
 use mathlib.Core.Bool.{_&&_}
 use mathlib.Core.List.{List, _++_}
 use mathlib.Core.Logic.{_↔_, _≢_}
-use mathlib.Core.Path.{_≡_, ap, _∙_}
+use mathlib.Core.Path.{_≡_, sym, ap, _∙_}
 use Prim.Native.Nat.{ℕ, _≤_, _<_}
 use borrow.Author.Tests.{le-ltb, eq-eqb}
 use lib.Dec.{ltb}
@@ -21,6 +21,7 @@ use Rattle.words.specs.Words.{bit}
 use Rattle.words.specs.Laws.{bit-wordOf}
 use Rattle.book.specs.Book.{cellsOf, bookRefusal}
 use Rattle.book.specs.BookGraph.{graphOf}
+use Rattle.book.specs.Contents.{SameContents}
 use Rattle.sheet.specs.Sheet.{lengthOf, countOf, questionOf, sheetRefusal, sheetAnswer}
 use Rattle.sheet.specs.declared.SheetAnswer.the-variants.{Accepted}
 use Rattle.evaluate.specs.QuestionWord.{questionWord}
@@ -35,7 +36,7 @@ use Rattle.compare.specs.declared.CompareAnswer.{CompareAnswer}
 use Rattle.compare.specs.declared.CompareAnswer.the-variants as says
 use Rattle.compare.specs.Compare.{comparedMap, comparedSheet, Lists, leftBy, rightAnswer, IsCompare, Accepts}
 use Rattle.compare.specs.Parted.{PartedBy}
-use Rattle.compare.specs.Promises.{Given, sheet-accepted, sheet-found, zeros-greatest, zero-exactly, nonzero-parts}
+use Rattle.compare.specs.Promises.{Given, sheet-accepted, sheet-found, zeros-greatest, zero-exactly, nonzero-parts, contents-alike}
 use Rattle.compare.specs.Laws.{accepts-compared}
 
 -- ---- what Compare leaves
@@ -87,6 +88,14 @@ module _ {l r : List ℕ} {c : ℕ} {before now : Lists} {a : CompareAnswer} (t 
     -- "each parted pair's map entry names a question of the sheet within the bound, true left, false right, no deeper than left cells × right cells."
     pub demand-3-parted : placed (cellsOf r) (now .map) i j ≢ 0 → PartedBy l r c (sheetIn (now .room)) i j (placed (cellsOf r) (now .map) i j)
     demand-3-parted = rw (map-is, sheet-is) (nonzero-parts books i j o u)
+
+-- "Version 1 is still read, its labels as the same numbers" (02, 2026-02): two calls on books with the same cells and links, of whatever versions, leave
+-- the same map, and so match the same pairs.
+module _ {l l′ r r′ : List ℕ} {c : ℕ} {before now before′ now′ : Lists} {a a′ : CompareAnswer} (t : IsCompare l r c before a now) (t′ : IsCompare l′ r′ c before′ a′ now′)
+    (bytes : (Bytes l × Bytes r) × (Bytes l′ × Bytes r′)) (given : Accepts l r c (length (before .map)) (length (before .room)) (length (before .scratch)))
+    (given′ : Accepts l′ r′ c (length (before′ .map)) (length (before′ .room)) (length (before′ .scratch))) where
+  pub versions-alike : SameContents l l′ → SameContents r r′ → now .map ≡ now′ .map
+  versions-alike d e = map-is t (bytes .0) given ∙ contents-alike l l′ r r′ c d e .0 ∙ sym (map-is t′ (bytes .1) given′)
 
 -- ---- what Truth leaves
 

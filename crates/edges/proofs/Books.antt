@@ -93,10 +93,11 @@ module _ (s : List ℕ) (t : Comparison) where
   unfolding passingTo wordOf
   word-none x = refl
 
-  module _ (x y a b : ℕ) (da : a ≡ recordingAt s x) (db : b ≡ recordingAt s y) (r : Bool) (dr : r ≡ compared dataValue t a b) (out next : ℕ) (i : out ≡ passingTo s t x y) where
+  module _ (n x y : ℕ) (dn : n ≡ cellsOf s) (hx : x < cellsOf s) (hy : y < n) (a b : ℕ) (da : a ≡ recordingAt s x) (db : b ≡ recordingAt s y)
+      (r : Bool) (dr : r ≡ compared dataValue t a b) (out next : ℕ) (i : out ≡ passingTo s t x y) where
     more : passingTo s t x (y + 1) ≡ cond r (bitOr out (2 ^ y)) out
     unfolding passingTo
-    more = rw (add-one y, i) (wordOf-suc y _ ∙ rw (book-ends s t x y, ← da, ← db, ← dr))
+    more = rw (add-one y, i) (wordOf-suc y _ ∙ rw (book-ends s t x y hx (omega arith), ← da, ← db, ← dr))
 
     pub word-more : So r → (joined : ℕ) → joined ≡ bitOr out (2 ^ y) → next ≡ joined → next ≡ passingTo s t x (y + 1)
     word-more e joined u d = d ∙ u ∙ sym (rw e at more)

@@ -28,7 +28,7 @@ pub fn load(book: &[u8], from: &mut [u8; 512], labels: &mut [u16; 512], to: &mut
     while k < e {
         let link = book::link_of(book, k);
         from[k] = link.from;
-        labels[k] = link.label as u16;
+        labels[k] = link.label;
         to[k] = link.to;
         k += 1;
     }

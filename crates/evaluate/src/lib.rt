@@ -67,7 +67,7 @@ fn way_word(
     let mut left = way.count;
     while 0 < left {
         left -= 1;
-        let label = sheet::label(sheet, way, left) as u16;
+        let label = sheet::label(sheet, way, left);
         let tested = tested_word(sheet, way, left, known);
         out = edges::image(count, to, labels, from, label, words::meet(tested, out));
     }
@@ -104,7 +104,7 @@ fn end_rows(
     let mut left = way.count;
     while 0 < left {
         left -= 1;
-        let label = sheet::label(sheet, way, left) as u16;
+        let label = sheet::label(sheet, way, left);
         let tested = tested_word(sheet, way, left, known);
         rows = edges::gather(count, from, labels, to, label, tested, &rows);
     }

@@ -3,6 +3,7 @@ ghost use mathlib.Core.Path.{_≡_};
 ghost use Prim.Native.Nat.{_+_, _^_, _≤_, _<_};
 ghost use lib.ListN.{length};
 ghost use Rattle.fields.specs.Fields.{field, withField};
+ghost use Rattle.fields.specs.Label.{labelWidth};
 
 // The field of one byte at `at`.
 pub fn get1(s: &[u8], at: usize) -> u8
@@ -66,4 +67,37 @@ pub fn put4(s: &mut [u8], at: usize, v: u32)
 {
     put2(s, at, (v / 65536 % 65536) as u16);
     put2(s, at + 2, (v % 65536) as u16);
+}
+
+// How many bytes a label takes in a book or sheet of a version.
+pub fn label_width(version: u8) -> usize
+    ensures { λ r. ⌜ (r ≡ labelWidth version) × (1 ≤ r) × (r ≤ 2) ⌝ }
+{
+    if version == 1 {
+        return 1;
+    }
+    2
+}
+
+// The label at `at` in a book or sheet of a version.
+pub fn get_label(s: &[u8], at: usize, version: u8) -> u16
+    requires { ⌜ at + labelWidth version ≤ length (now s) ⌝ }
+    ensures { λ r. ⌜ r ≡ field (labelWidth version) (now (s .entry)) at ⌝ }
+{
+    if version == 1 {
+        return get1(s, at) as u16;
+    }
+    get2(s, at)
+}
+
+// Writes a label at `at` in a sheet of a version.
+pub fn put_label(s: &mut [u8], at: usize, version: u8, label: u16)
+    requires { ⌜ (at + labelWidth version ≤ length (now s)) × (label < 256 ^ labelWidth version) ⌝ }
+    ensures { λ r. ⌜ now (s .exit) ≡ withField (labelWidth version) (now (s .entry)) at label ⌝ }
+{
+    if version == 1 {
+        put1(s, at, label as u8);
+    } else {
+        put2(s, at, label);
+    }
 }

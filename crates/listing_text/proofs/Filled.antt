@@ -14,9 +14,10 @@ use Rattle.compare_laws.specs.Places.{unparted, zeros}
 use Rattle.compare_laws.specs.PlaceLaws.{among-at}
 use mir.Syntax.{w8}
 use mir.Val.{Fits}
+use Rattle.compare_lists.specs.BookSetting.{sheetVersion}
 use Rattle.compare.specs.Compare.{pairsOf, comparedMap, comparedSheet, Lists, leftBy, lent, rightAnswer, IsCompare}
 use Rattle.compare.specs.Promises.{Given, map-places, zeros-matched}
-use Rattle.compare.specs.Laws.{accepts-compared}
+use Rattle.compare.specs.Laws.{room-most, accepts-compared}
 use Rattle.compare.specs.declared.CompareAnswer.{CompareAnswer}
 use Rattle.compare.specs.declared.CompareAnswer.the-variants.{Compared}
 use Rattle.text.specs.Text.{Wrote}
@@ -38,7 +39,7 @@ module _ (l r : List ℕ) (c : ℕ) (g : Listed l r c) where
           left = g .left;
           right = g .right;
           map = h;
-          roomy = omega (arith, pairs-few);
+          roomy = omega (arith, room-most (sheetVersion l r) (pairsOf l r) 1024 pairs-few);
           spare = omega (arith, pairs-few);
         })
 

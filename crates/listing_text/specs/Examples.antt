@@ -5,12 +5,13 @@ use Prim.Native.Nat.{ℕ}
 use Prim.Native.String.{String}
 use lib.ListN.{take, drop, set, replicate}
 use Rattle.fields.specs.Fields.{field}
+use Rattle.fields.specs.Label.{labelWidth}
 use Rattle.theory.specs.Search.{any, every, list}
 use Rattle.theory.specs.Graph.{comparisons, compared, has}
 use Rattle.theory.specs.Path.{end, out, onward, paths}
 use Rattle.theory.specs.Rounds.{follow, met, twoPaths, oneLink, zigs, zags, table, round, rounds, settled}
 use Rattle.words.specs.Words.{tally, wordOf}
-use Rattle.book.specs.Book.{recordingAt, labelWidth, linkIn, linkAt, countsRefusal, headRefusal, below, precedes, rises, linkRefusal, linksRefusal, bookRefusal}
+use Rattle.book.specs.Book.{recordingAt, linkIn, linkAt, countsRefusal, headRefusal, below, precedes, rises, linkRefusal, linksRefusal, bookRefusal}
 use Rattle.book.specs.Examples.{leftBook, rightBook}
 use Rattle.text.specs.Text.{ascii, numeral, labelled, ending}
 use Rattle.listing_lines.specs.Lines.{rowLines, pairsIn, pairLines}
@@ -42,13 +43,13 @@ rows =
     ∷ row (1 ∷ 0 ∷ 0 ∷ 0 ∷ 7 ∷ drop 4 leftBook) "refused left 1\n"
     ∷ row (1 ∷ take 25 leftBook) "refused left 2\n"
     -- the left book's refusal before the right's; no right book; a right book with a byte too much
-    ∷ row (1 ∷ set leftBook 4 2 ++ set rightBook 4 2) "refused left 3\n"
+    ∷ row (1 ∷ set leftBook 4 3 ++ set rightBook 4 3) "refused left 3\n"
     ∷ row (1 ∷ leftBook) "refused right 1\n"
     ∷ row (1 ∷ leftBook ++ rightBook ++ 0 ∷ []) "refused right 2\n"
     -- too many cells, after a refusal
     ∷ row (1 ∷ wideBook ++ rightBook) "too large\n"
     ∷ row (1 ∷ leftBook ++ wideBook) "too large\n"
-    ∷ row (1 ∷ wideBook ++ set rightBook 4 2) "refused right 3\n"
+    ∷ row (1 ∷ wideBook ++ set rightBook 4 3) "refused right 3\n"
     -- too much input, before all else
     ∷ row (replicate 8193 5) "too large\n"
     ∷ row (replicate 8192 5) "refused 20\n"

@@ -5,11 +5,12 @@ use mathlib.Core.List.{List, []}
 use Prim.Native.Nat.{ℕ, _+_, _-_, _≤_, _<_}
 use native.Mathlib.Nat.{mul-le-mul-left}
 use native.Mathlib.Omega.{arith}
-use borrow.Author.Tests.{lt-ltb, le-ltb, ltb-true, leb-true, eq-eqb, ne-eqb}
+use borrow.Author.Tests.{lt-ltb, le-ltb, lt-leb, ltb-true, leb-true, eq-eqb, ne-eqb}
 use lib.Dec.{leb}
 use lib.ListN.{length, take, drop}
+use Rattle.fields.specs.Label.{labelWidth}
 use Rattle.theory.specs.TestLaws.{and-iff}
-use Rattle.book.specs.Book.{recordingPlace, recordingAt, labelWidth, linkWidth, linkStart, linkIn, bookAnswer}
+use Rattle.book.specs.Book.{recordingPlace, recordingAt, versionOf, linkWidth, linkStart, linkIn, bookAnswer}
 use Rattle.book.specs.BookLinks.{linksBefore, linksAfter}
 use Rattle.book.specs.OutgoingLaws.{before-rises}
 use Rattle.book.specs.declared.BookAnswer.{BookAnswer}
@@ -42,6 +43,10 @@ module _ (s : List ℕ) (n e x : ℕ) where
   pub has-none : n ≤ x → false ≡ hasKept s n e x
   unfolding hasKept
   has-none h = rw (le-ltb x n h)
+
+  pub has-short : x < n → length s < 8 → false ≡ hasKept s n e x
+  unfolding hasKept
+  has-short h l = rw (lt-ltb x n h, lt-leb (linkStart s n e) (length s) (omega arith))
 
   pub has-room : (l : ℕ) → x < n → l ≡ linkStart s n e → leb l (length s) ≡ hasKept s n e x
   unfolding hasKept
@@ -84,7 +89,7 @@ module _ (s : List ℕ) (n e x first end from to : ℕ) (df : first ≡ linksBef
     (dfrom : from ≡ linkStart s n first) (dto : to ≡ linkStart s n end) where
   pub run-rises : from ≤ to
   run-rises =
-      let r : first ≤ end = rw (df, de) (before-rises x e (λ k. linkIn (labelWidth s) s (linkStart s n k))) in
+      let r : first ≤ end = rw (df, de) (before-rises x e (λ k. linkIn (labelWidth (versionOf s)) s (linkStart s n k))) in
       omega (arith, mul-le-mul-left (linkWidth s) r)
 
   pub run-ends : linkStart s n e ≤ length s → end ≤ e → to ≤ length s

@@ -50,6 +50,9 @@ fn has_cell(bytes: &[u8], cells: u8, links: u16, cell: usize) -> bool
     if n <= cell {
         return false;
     }
+    if bytes.len() < 8 {
+        return false;
+    }
     book::link_start(bytes, n, links as usize) <= bytes.len()
 }
 

@@ -64,7 +64,7 @@ module _ (s : List ℕ) (w : Steps) (cs ls : List ℕ) where
 
   pub way-none : w .count ≡ 0 → record { chain = 0; length = 1 } ≡ wayMeasure cs ls (stepsOf s w)
   unfolding wayMeasure
-  way-none e = go (stepsOf s w) (omega (arith, length-steps s (w .start) (w .count)))
+  way-none e = go (stepsOf s w) (omega (arith, length-steps (w .version) s (w .start) (w .count)))
     where
       go : (ss : List Step) → length ss ≡ 0 → record { chain = 0; length = 1 } ≡ wayMeasure cs ls ss
       go [] h = refl
@@ -72,7 +72,7 @@ module _ (s : List ℕ) (w : Steps) (cs ls : List ℕ) where
 
   pub way-some : (r : Measure) → (w .count ≡ 0 → ⊥) → r ≡ stepsMeasure cs ls (stepsOf s w) → r ≡ wayMeasure cs ls (stepsOf s w)
   unfolding wayMeasure
-  way-some r f = go (stepsOf s w) (length-steps s (w .start) (w .count))
+  way-some r f = go (stepsOf s w) (length-steps (w .version) s (w .start) (w .count))
     where
       go : (ss : List Step) → length ss ≡ w .count → r ≡ stepsMeasure cs ls ss → r ≡ wayMeasure cs ls ss
       go [] h e = absurd (f (sym h))

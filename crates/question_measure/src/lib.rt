@@ -117,7 +117,7 @@ fn step_measure(sheet: &[u8], way: Steps, i: usize, chains: &[u16], lengths: &[u
     requires { ⌜ (i < way .count) × WayKnown (now sheet) way (length (now chains)) × (length (now chains) ≤ length (now lengths)) ⌝ }
     ensures { λ r. ⌜ r ≡ stepMeasure (now (chains .entry)) (now (lengths .entry)) (stepIn (stepsOf (now (sheet .entry)) way) i) ⌝ }
 {
-    let label = sheet::label(sheet, way, i) as u64;
+    let label = sheet::label(sheet, way, i);
     let k = sheet::test(sheet, way, i).0 as usize;
     let digits = text::digits(label);
     longer(referred(chains, lengths, k), 3 + digits)

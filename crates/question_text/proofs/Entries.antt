@@ -3,11 +3,11 @@ use mathlib.Core.List.{List, [], _∷_, _++_}
 use mathlib.Core.Path.{_≡_, refl, ap}
 use Prim.Native.Nat.{ℕ, _+_, _*_, _≤_, _<_}
 use native.Mathlib.Omega.{arith}
-use lib.ListN.{length, getD}
+use lib.ListN.{getD}
 use Rattle.theory.specs.Graph.{same, differ}
 use Rattle.theory.specs.Expression.{NodeExpr}
-use Rattle.sheet.specs.Entry.{onlyVersion, Entry, truth, negation, conjunction, disjunction, way, comparison, kindOf, firstWay, secondWay, named, spellWay, spell, numbers, mostSteps, Short, Below}
-use Rattle.sheet.specs.Sheet.{mostBound, boundOf, entryAt}
+use Rattle.sheet.specs.Entry.{Entry, truth, negation, conjunction, disjunction, way, comparison, kindOf, firstWay, secondWay, named, spellWay, spell, numbers, Below}
+use Rattle.sheet.specs.Sheet.{entryAt}
 use Rattle.sheet.specs.AcceptedLaws.{well-formed-entry, accepted-standing, accepted-question}
 use Rattle.sheet.specs.Reading.{Readable, HasNumber}
 use Rattle.sheet.specs.ReadingLaws.{readable}
@@ -74,17 +74,6 @@ module _ (qs : List NodeExpr) where
   text-ways (comparison same s s′) h = refl
   text-ways (comparison differ s s′) h = refl
 
--- ---- the ways of an entry are short
-
-pub few-first : (c : ℕ) (e : Entry) → c ≤ mostBound → Short c e → (length (firstWay e) ≤ mostSteps onlyVersion) × (length (secondWay e) ≤ mostSteps onlyVersion)
-unfolding Short firstWay secondWay
-few-first c truth h k = (omega arith, omega arith)
-few-first c (negation i) h k = (omega arith, omega arith)
-few-first c (conjunction i j) h k = (omega arith, omega arith)
-few-first c (disjunction i j) h k = (omega arith, omega arith)
-few-first c (way s) h k = (k, omega arith)
-few-first c (comparison t s s′) h k = (omega arith, omega arith)
-
 -- ---- entry k, which starts at `start`
 
 pub started-at : {s starts : List ℕ} {n : ℕ} → Started s starts n → (m : ℕ) → m ≤ n → Started s starts m
@@ -105,9 +94,6 @@ module _ (s starts : List ℕ) (k start : ℕ) (o : Entered s starts k start) wh
 
   pub entered-earlier : Below k (numbers (entryAt s start))
   entered-earlier = rw (o .place) (well-formed-entry (accepted-standing s (o .started .good) k (o .below)) .earlier)
-
-  pub entered-short : Short (boundOf s) (entryAt s start)
-  entered-short = rw (o .place) (well-formed-entry (accepted-standing s (o .started .good) k (o .below)) .short)
 
 -- the entry that its number j names
 module _ (s starts : List ℕ) (k start i j : ℕ) (o : Entered s starts k start) (h : HasNumber s start j) (d : i ≡ getD (numbers (entryAt s start)) j 0) where

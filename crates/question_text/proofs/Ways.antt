@@ -2,17 +2,16 @@
 use mathlib.Core.List.{List, [], _∷_, _++_, append-assoc, append-nil}
 use mathlib.Core.Bool.{Bool, true, false, cond}
 use mathlib.Core.Path.{_≡_, refl, sym, ap, _∙_}
-use Prim.Native.Nat.{ℕ, zero, suc, _+_, _-_, _*_, _≤_, _<_}
+use Prim.Native.Nat.{ℕ, suc, _+_, _-_, _*_, _≤_, _<_}
+use native.Mathlib.Nat.{mul-le-mul-left}
 use native.Mathlib.Omega.{arith}
 use lib.Dec.{eqb}
 use lib.ListN.{length, length-append}
 use Rattle.theory.specs.Expression.{NodeExpr}
 use Rattle.fields.specs.Runs.{PutBytes}
 use Rattle.fields.specs.RunLaws.{put-none, put-as, put-after, piece-fits, rest-fits}
-use Rattle.sheet.specs.Entry.{onlyVersion, Step, kindOf, firstWay, secondWay, stepIn, named, spellWay, tests, mostSteps, Below}
-use Rattle.sheet.specs.ExpressionLaws.{below-append}
-use Rattle.sheet.specs.Sheet.{boundOf, stepWidth, stepAt, stepsAt, entryAt}
-use Rattle.sheet.specs.PassedLaws.{accepted-head}
+use Rattle.sheet.specs.Entry.{Step, kindOf, firstWay, secondWay, stepIn, named, spellWay, tests, Below}
+use Rattle.sheet.specs.Sheet.{stepWidth, stepAt, stepsAt, entryAt}
 use Rattle.sheet.specs.AcceptedLaws.{length-steps}
 use Rattle.sheet.specs.Reading.{HasWay, HasStep, Reads, stepsOf}
 use Rattle.sheet.specs.ReadingLaws.{test-below}
@@ -22,31 +21,22 @@ use Rattle.text.specs.Text.{ascii, decimal}
 use Rattle.question_measure.specs.Text.{signText, orStay, stepsText, questionText, wayText}
 use Rattle.question_text.specs.Answer.{textOf}
 use Rattle.question_text.specs.Writing.{Entered, WayOf, signBy, questionsOf, labelText, between, stepsTextOf, wayTextOf, secondText}
-use Rattle.question_text.proofs.Entries.{text-way, text-ways, few-first, entered-readable, entered-text, entered-earlier, entered-short}
+use Rattle.question_text.proofs.Entries.{text-way, text-ways, entered-readable, entered-text, entered-earlier}
 
 -- ---- the ways of entry k
 module _ (s starts : List ℕ) (k start : ℕ) (o : Entered s starts k start) where
-  few : (length (firstWay (entryAt s start)) ≤ mostSteps onlyVersion) × (length (secondWay (entryAt s start)) ≤ mostSteps onlyVersion)
-  few = few-first (boundOf s) (entryAt s start) (accepted-head s (o .started .good) .bounded) (entered-short s starts k start o)
-
   earlier : Below k (tests (firstWay (entryAt s start))) × Below k (tests (secondWay (entryAt s start)))
   earlier = ways-below k (entryAt s start) (entered-earlier s starts k start o)
 
-  way-of : (p w : Steps) (ss : List Step) → Reads s p ss w → length ss ≤ mostSteps onlyVersion → Below k (tests ss) → WayOf s starts k w
-  way-of p w ss r l e =
-      record {
-        started = o .started;
-        inside = r .inside;
-        few = omega (arith, ap length (r .steps), length-steps s (w .start) (w .count));
-        earlier = rw (r .steps) e;
-      }
+  way-of : (p w : Steps) (ss : List Step) → Reads s p ss w → Below k (tests ss) → WayOf s starts k w
+  way-of p w ss r e = record { started = o .started; inside = r .inside; earlier = rw (r .steps) e }
 
   module _ (p w : Steps) where
     pub first-way-of : Reads s p (firstWay (entryAt s start)) w → WayOf s starts k w
-    first-way-of f = way-of p w (firstWay (entryAt s start)) f (few .0) (earlier .0)
+    first-way-of f = way-of p w (firstWay (entryAt s start)) f (earlier .0)
 
     pub second-way-of : Reads s p (secondWay (entryAt s start)) w → WayOf s starts k w
-    second-way-of f = way-of p w (secondWay (entryAt s start)) f (few .1) (earlier .1)
+    second-way-of f = way-of p w (secondWay (entryAt s start)) f (earlier .1)
 
 -- ---- put_exists
 module _ (s starts : List ℕ) (k start : ℕ) (o : Entered s starts k start) (q : kindOf (entryAt s start) ≡ 4) where
@@ -79,28 +69,25 @@ module _ (s starts : List ℕ) (k start kind : ℕ) (o : Entered s starts k star
   pub compared-first : HasWay s start 4
   compared-first = record { entry = entered-readable s starts k start o; kind = omega arith }
 
-  pub compared-second : HasWay s start 5
-  compared-second = record { entry = entered-readable s starts k start o; kind = omega arith }
-
-  module _ (p w p′ w′ : Steps) (f : Reads s p (firstWay (entryAt s start)) w) (f′ : Reads s p′ (secondWay (entryAt s start)) w′) (room : List ℕ) (at : ℕ) where
-    compared-text : textOf s k ≡ ascii "<" ++ (wayTextOf s w ++ secondText s kind w′)
-    compared-text = entered-text s starts k start o ∙ text-ways (questionsOf s) (entryAt s start) (omega arith) ∙ rw (f .steps, f′ .steps, q)
+  module _ (p w : Steps) (f : Reads s p (firstWay (entryAt s start)) w) (room : List ℕ) (at : ℕ) where
+    compared-text : textOf s k ≡ ascii "<" ++ (wayTextOf s w ++ secondText s kind start)
+    compared-text = entered-text s starts k start o ∙ text-ways (questionsOf s) (entryAt s start) (omega arith) ∙ rw (f .steps, q)
 
     pub compared-opens : at + length (textOf s k) ≤ length room → at + 1 ≤ length room
-    compared-opens h = piece-fits room at (textOf s k) (ascii "<") (wayTextOf s w ++ secondText s kind w′) compared-text h
+    compared-opens h = piece-fits room at (textOf s k) (ascii "<") (wayTextOf s w ++ secondText s kind start) compared-text h
 
     module _ (mid : List ℕ) (to : ℕ) (r : PutBytes room at (60 ∷ []) mid to) where
-      compared-rest : at + length (textOf s k) ≤ length room → to + length (wayTextOf s w ++ secondText s kind w′) ≤ length mid
-      compared-rest h = rest-fits (textOf s k) (ascii "<") (wayTextOf s w ++ secondText s kind w′) compared-text h r
+      compared-rest : at + length (textOf s k) ≤ length room → to + length (wayTextOf s w ++ secondText s kind start) ≤ length mid
+      compared-rest h = rest-fits (textOf s k) (ascii "<") (wayTextOf s w ++ secondText s kind start) compared-text h r
 
       pub compared-part : at + length (textOf s k) ≤ length room → to + length (wayTextOf s w) ≤ length mid
-      compared-part h = piece-fits mid to (wayTextOf s w ++ secondText s kind w′) (wayTextOf s w) (secondText s kind w′) refl (compared-rest h)
+      compared-part h = piece-fits mid to (wayTextOf s w ++ secondText s kind start) (wayTextOf s w) (secondText s kind start) refl (compared-rest h)
 
       module _ (mid′ : List ℕ) (to′ : ℕ) (r′ : PutBytes mid to (wayTextOf s w) mid′ to′) where
-        pub compared-other : at + length (textOf s k) ≤ length room → to′ + length (secondText s kind w′) ≤ length mid′
-        compared-other h = rest-fits (wayTextOf s w ++ secondText s kind w′) (wayTextOf s w) (secondText s kind w′) refl (compared-rest h) r′
+        pub compared-other : at + length (textOf s k) ≤ length room → to′ + length (secondText s kind start) ≤ length mid′
+        compared-other h = rest-fits (wayTextOf s w ++ secondText s kind start) (wayTextOf s w) (secondText s kind start) refl (compared-rest h) r′
 
-        pub compared-put : (exit : List ℕ) (next : ℕ) → PutBytes mid′ to′ (secondText s kind w′) exit next → PutBytes room at (textOf s k) exit next
+        pub compared-put : (exit : List ℕ) (next : ℕ) → PutBytes mid′ to′ (secondText s kind start) exit next → PutBytes room at (textOf s k) exit next
         compared-put exit next x = put-as (sym compared-text) (put-after r (put-after r′ x))
 
 -- ---- put_second
@@ -112,23 +99,30 @@ sign-some kind = go (eqb kind 5)
     go true = omega arith
     go false = omega arith
 
-module _ (s : List ℕ) (kind : ℕ) (w : Steps) (room : List ℕ) (at : ℕ) where
-  pub second-sign : at + length (secondText s kind w) ≤ length room → at + 2 ≤ length room
-  second-sign h = omega (arith, length-append (signBy kind) (wayTextOf s w ++ ascii ">"), length-append (wayTextOf s w) (ascii ">"), sign-some kind)
+pub compared-second : (s starts : List ℕ) (k start kind : ℕ) → Entered s starts k start → kind ≡ kindOf (entryAt s start) → 5 ≤ kind → HasWay s start 5
+compared-second s starts k start kind o q b = record { entry = entered-readable s starts k start o; kind = omega arith }
+
+module _ (s : List ℕ) (start kind : ℕ) (p w : Steps) (f : Reads s p (secondWay (entryAt s start)) w) (room : List ℕ) (at : ℕ) where
+  second-text : secondText s kind start ≡ signBy kind ++ (wayTextOf s w ++ ascii ">")
+  second-text = rw (f .steps)
+
+  pub second-sign : at + length (secondText s kind start) ≤ length room → at + 2 ≤ length room
+  second-sign h =
+      omega (arith, ap length second-text, length-append (signBy kind) (wayTextOf s w ++ ascii ">"), length-append (wayTextOf s w) (ascii ">"), sign-some kind)
 
   module _ (mid : List ℕ) (to : ℕ) (r : PutBytes room at (signBy kind) mid to) where
-    second-rest : at + length (secondText s kind w) ≤ length room → to + length (wayTextOf s w ++ ascii ">") ≤ length mid
-    second-rest h = rest-fits (secondText s kind w) (signBy kind) (wayTextOf s w ++ ascii ">") refl h r
+    second-rest : at + length (secondText s kind start) ≤ length room → to + length (wayTextOf s w ++ ascii ">") ≤ length mid
+    second-rest h = rest-fits (secondText s kind start) (signBy kind) (wayTextOf s w ++ ascii ">") second-text h r
 
-    pub second-part : at + length (secondText s kind w) ≤ length room → to + length (wayTextOf s w) ≤ length mid
+    pub second-part : at + length (secondText s kind start) ≤ length room → to + length (wayTextOf s w) ≤ length mid
     second-part h = piece-fits mid to (wayTextOf s w ++ ascii ">") (wayTextOf s w) (ascii ">") refl (second-rest h)
 
     module _ (mid′ : List ℕ) (to′ : ℕ) (r′ : PutBytes mid to (wayTextOf s w) mid′ to′) where
-      pub second-closes : at + length (secondText s kind w) ≤ length room → to′ + 1 ≤ length mid′
+      pub second-closes : at + length (secondText s kind start) ≤ length room → to′ + 1 ≤ length mid′
       second-closes h = rest-fits (wayTextOf s w ++ ascii ">") (wayTextOf s w) (ascii ">") refl (second-rest h) r′
 
-      pub second-put : (exit : List ℕ) (next : ℕ) → PutBytes mid′ to′ (62 ∷ []) exit next → PutBytes room at (secondText s kind w) exit next
-      second-put exit next x = put-after r (put-after r′ x)
+      pub second-put : (exit : List ℕ) (next : ℕ) → PutBytes mid′ to′ (62 ∷ []) exit next → PutBytes room at (secondText s kind start) exit next
+      second-put exit next x = put-as (sym second-text) (put-after r (put-after r′ x))
 
 -- ---- put_way
 module _ (s : List ℕ) (w : Steps) where
@@ -138,7 +132,7 @@ module _ (s : List ℕ) (w : Steps) where
 
   steps-some : (w .count ≡ 0 → ⊥) → wayTextOf s w ≡ stepsTextOf s w
   unfolding spellWay stepsText orStay
-  steps-some f = go (stepsOf s w) (length-steps s (w .start) (w .count))
+  steps-some f = go (stepsOf s w) (length-steps (w .version) s (w .start) (w .count))
     where
       go : (ss : List Step) → length ss ≡ w .count → wayText (spellWay (questionsOf s) ss) ≡ stepsText (spellWay (questionsOf s) ss)
       go [] h = absurd (f (sym h))
@@ -158,55 +152,10 @@ module _ (s : List ℕ) (w : Steps) where
     steps-put exit next f p = put-as (sym (steps-some f)) p
 
 -- ---- put_steps
-stepsAt-add : (s : List ℕ) (at m n : ℕ) → stepsAt s at (m + n) ≡ stepsAt s at m ++ stepsAt s (at + stepWidth onlyVersion * m) n
-unfolding stepsAt
-stepsAt-add s at zero n = rw (let e : at + stepWidth onlyVersion * 0 ≡ at = omega arith in e, let z : 0 + n ≡ n = omega arith in z)
-stepsAt-add s at (suc m) n =
-    rw (let e : suc m + n ≡ suc (m + n) = omega arith in e, let z : at + stepWidth onlyVersion * suc m ≡ at + stepWidth onlyVersion + stepWidth onlyVersion * m = omega arith in z)
-    (ap (λ l. stepAt s at ∷ l) (stepsAt-add s (at + stepWidth onlyVersion) m n))
 
-steps-append : (qs : List NodeExpr) (ss ts : List Step) → stepsText (spellWay qs (ss ++ ts)) ≡ stepsText (spellWay qs ss) ++ stepsText (spellWay qs ts)
-unfolding spellWay stepsText
-steps-append qs [] ts = refl
-steps-append qs (x ∷ ss) ts =
-    let A = ascii "/" ++ decimal (x .label) in
-    let B = ascii "[" ++ (questionText (named qs (x .test)) ++ ascii "]") in
-    let R = stepsText (spellWay qs ss) in
-    let T = stepsText (spellWay qs ts) in
-    ap (λ l. A ++ (B ++ l)) (steps-append qs ss ts) ∙ ap (λ l. A ++ l) (sym (append-assoc B R T)) ∙ sym (append-assoc A (B ++ R) T)
-
-tests-append : (ss ts : List Step) → tests (ss ++ ts) ≡ tests ss ++ tests ts
-unfolding tests
-tests-append [] ts = refl
-tests-append (x ∷ ss) ts = ap (λ l. x .test ∷ l) (tests-append ss ts)
-
-module _ (s starts : List ℕ) (k : ℕ) (w : Steps) (o : WayOf s starts k w) (m : ℕ) (h : m ≤ w .count) where
-  -- the first m steps, and the others
-  front : Steps
-  front = record { start = w .start; count = m }
-
-  back : Steps
-  back = record { start = w .start + stepWidth onlyVersion * m; count = w .count - m }
-
-  parted : stepsOf s w ≡ stepsOf s front ++ stepsOf s back
-  unfolding front back
-  parted = ap (stepsAt s (w .start)) (let e : w .count ≡ m + (w .count - m) = omega arith in e) ∙ stepsAt-add s (w .start) m (w .count - m)
-
-  split-text : stepsTextOf s w ≡ stepsTextOf s front ++ stepsTextOf s back
-  split-text = ap (λ ss. stepsText (spellWay (questionsOf s) ss)) parted ∙ steps-append (questionsOf s) (stepsOf s front) (stepsOf s back)
-
-  split-earlier : Below k (tests (stepsOf s front)) × Below k (tests (stepsOf s back))
-  split-earlier = below-append k (tests (stepsOf s front)) (tests (stepsOf s back)) (rw (← tests-append (stepsOf s front) (stepsOf s back), ← parted) (o .earlier))
-
-  front-of : WayOf s starts k front
-  unfolding front
-  front-of =
-      record { started = o .started; inside = let i = o .inside in omega arith; few = let f = o .few in omega arith; earlier = split-earlier .0 }
-
-  back-of : WayOf s starts k back
-  unfolding back
-  back-of =
-      record { started = o .started; inside = let i = o .inside in omega arith; few = let f = o .few in omega arith; earlier = split-earlier .1 }
+-- The n steps from byte `from` on, in version v.
+abbrev pub run : ℕ → ℕ → ℕ → Steps
+run v from n = record { start = from; count = n; version = v }
 
 -- Of a text that is written from `at` on, `done` is written, and the steps of w are left.
 pub record Going (s room₀ : List ℕ) (at : ℕ) (text room : List ℕ) (next : ℕ) (w : Steps) : Type 0 where
@@ -217,40 +166,70 @@ pub record Going (s room₀ : List ℕ) (at : ℕ) (text room : List ℕ) (next 
 pub going-start : (s room : List ℕ) (at : ℕ) (w : Steps) → Going s room at (stepsTextOf s w) room at w
 going-start s room at w = record { done = []; split = refl; put = put-none room at }
 
-pub going-end : (s room₀ : List ℕ) (at : ℕ) (text room : List ℕ) (next from left : ℕ) → left ≤ 0 → Going s room₀ at text room next (record { start = from; count = left })
+pub going-end : (s room₀ : List ℕ) (at : ℕ) (text room : List ℕ) (next v from left : ℕ) → left ≤ 0 → Going s room₀ at text room next (run v from left)
     → PutBytes room₀ at text room next
 unfolding stepsAt spellWay stepsText
-going-end s room₀ at text room next from left h g =
+going-end s room₀ at text room next v from left h g =
     let e : left ≡ 0 = omega arith in
-    put-as (sym (g .split ∙ ap (λ n. g .done ++ stepsTextOf s (record { start = from; count = n })) e ∙ append-nil (g .done))) (g .put)
+    put-as (sym (g .split ∙ ap (λ n. g .done ++ stepsTextOf s (run v from n)) e ∙ append-nil (g .done))) (g .put)
 
-module _ (s starts : List ℕ) (k from left : ℕ) (o : WayOf s starts k (record { start = from; count = left })) (h : 0 < left) where
-  pub one-way : WayOf s starts k (record { start = from; count = 1 })
-  unfolding front
-  one-way = front-of s starts k (record { start = from; count = left }) o 1 (omega arith)
+-- a step's text stands before that of the others
+step-first : (qs : List NodeExpr) (x : Step) (ss : List Step) → stepsText (spellWay qs (x ∷ ss)) ≡ stepsText (spellWay qs (x ∷ [])) ++ stepsText (spellWay qs ss)
+unfolding spellWay stepsText
+step-first qs x ss =
+    let A = ascii "/" ++ decimal (x .label) in
+    let B = ascii "[" ++ (questionText (named qs (x .test)) ++ ascii "]") in
+    let R = stepsText (spellWay qs ss) in
+    sym (ap (λ l. (A ++ l) ++ R) (append-nil B) ∙ append-assoc A B R)
 
-  pub others-way : WayOf s starts k (record { start = from + 3; count = left - 1 })
-  unfolding back
-  others-way = back-of s starts k (record { start = from; count = left }) o 1 (omega arith)
+module _ (s starts : List ℕ) (k v from left : ℕ) (o : WayOf s starts k (run v from left)) (h : 0 < left) where
+  -- the first step, of `size` bytes, and the others
+  module _ (size : ℕ) (d : size ≡ stepWidth v * 1) where
+    parted : stepsOf s (run v from left) ≡ stepAt v s from ∷ stepsOf s (run v (from + size) (left - 1))
+    unfolding stepsAt
+    parted =
+        ap (stepsAt v s from) (let e : left ≡ suc (left - 1) = omega arith in e)
+        ∙ ap (λ at. stepAt v s from ∷ stepsAt v s at (left - 1)) (let e : from + stepWidth v ≡ from + size = omega arith in e)
 
-  first-others : stepsTextOf s (record { start = from; count = left }) ≡ stepsTextOf s (record { start = from; count = 1 }) ++ stepsTextOf s (record { start = from + 3; count = left - 1 })
-  unfolding front back
-  first-others = split-text s starts k (record { start = from; count = left }) o 1 (omega arith)
+    split-earlier : (stepAt v s from .test < k) × Below k (tests (stepsOf s (run v (from + size) (left - 1))))
+    unfolding tests Below
+    split-earlier = rw parted at (o .earlier)
 
-  module _ (room₀ : List ℕ) (at : ℕ) (text room : List ℕ) (next : ℕ) (g : Going s room₀ at text room next (record { start = from; count = left })) where
-    pub going-fits : at + length text ≤ length room₀ → next + length (stepsTextOf s (record { start = from; count = 1 })) ≤ length room
-    going-fits f =
-        piece-fits room next (stepsTextOf s (record { start = from; count = left })) (stepsTextOf s (record { start = from; count = 1 })) (stepsTextOf s (record { start = from + 3; count = left - 1 }))
-        first-others (rest-fits text (g .done) (stepsTextOf s (record { start = from; count = left })) (g .split) f (g .put))
-
-    pub going-next : (exit : List ℕ) (to : ℕ) → PutBytes room next (stepsTextOf s (record { start = from; count = 1 })) exit to
-        → Going s room₀ at text exit to (record { start = from + 3; count = left - 1 })
-    going-next exit to p =
+    pub others-way : WayOf s starts k (run v (from + size) (left - 1))
+    others-way =
         record {
-          done = g .done ++ stepsTextOf s (record { start = from; count = 1 });
-          split = g .split ∙ ap (λ l. g .done ++ l) first-others ∙ sym (append-assoc (g .done) _ _);
-          put = put-after (g .put) p;
+          started = o .started;
+          inside = let i = o .inside in let e : left ≡ suc (left - 1) = omega arith in omega (arith, ap (λ n. stepWidth v * n) e);
+          earlier = split-earlier .1;
         }
+
+    first-others : stepsTextOf s (run v from left) ≡ stepsTextOf s (run v from 1) ++ stepsTextOf s (run v (from + size) (left - 1))
+    unfolding stepsAt
+    first-others = ap (λ ss. stepsText (spellWay (questionsOf s) ss)) parted ∙ step-first (questionsOf s) (stepAt v s from) _
+
+    module _ (room₀ : List ℕ) (at : ℕ) (text room : List ℕ) (next : ℕ) (g : Going s room₀ at text room next (run v from left)) where
+      pub going-next : (exit : List ℕ) (to : ℕ) → PutBytes room next (stepsTextOf s (run v from 1)) exit to → Going s room₀ at text exit to (run v (from + size) (left - 1))
+      going-next exit to p =
+          record {
+            done = g .done ++ stepsTextOf s (run v from 1);
+            split = g .split ∙ ap (λ l. g .done ++ l) first-others ∙ sym (append-assoc (g .done) _ _);
+            put = put-after (g .put) p;
+          }
+
+  pub one-way : WayOf s starts k (run v from 1)
+  unfolding stepsAt tests Below
+  one-way =
+      record {
+        started = o .started;
+        inside = let i = o .inside in omega (arith, mul-le-mul-left (stepWidth v) h);
+        earlier = (split-earlier (stepWidth v * 1) refl .0, tt);
+      }
+
+  pub going-fits : (room₀ : List ℕ) (at : ℕ) (text room : List ℕ) (next : ℕ) → Going s room₀ at text room next (run v from left) → at + length text ≤ length room₀
+      → next + length (stepsTextOf s (run v from 1)) ≤ length room
+  going-fits room₀ at text room next g f =
+      piece-fits room next (stepsTextOf s (run v from left)) (stepsTextOf s (run v from 1)) _ (first-others (stepWidth v * 1) refl)
+      (rest-fits text (g .done) (stepsTextOf s (run v from left)) (g .split) f (g .put))
 
 -- ---- put_step
 one-step : (qs : List NodeExpr) (ss : List Step) → length ss ≡ 1
@@ -262,10 +241,10 @@ one-step qs (x ∷ y ∷ ss) h = absurd (omega arith)
 
 module _ (s starts : List ℕ) (k : ℕ) (w : Steps) (o : WayOf s starts k w) (c : w .count ≡ 1) where
   pub step-has : HasStep s w 0
-  step-has = record { present = omega arith; inside = o .inside }
+  step-has = record { present = omega arith; few = omega arith; inside = o .inside }
 
   pub test-earlier : (i : ℕ) → i ≡ stepIn (stepsOf s w) 0 .test → i < k
-  test-earlier i e = rw e (test-below k (stepsOf s w) 0 (o .earlier) (omega (arith, length-steps s (w .start) (w .count))))
+  test-earlier i e = rw e (test-below k (stepsOf s w) 0 (o .earlier) (omega (arith, length-steps (w .version) s (w .start) (w .count))))
 
   -- the test in brackets
   tested : List ℕ
@@ -273,7 +252,7 @@ module _ (s starts : List ℕ) (k : ℕ) (w : Steps) (o : WayOf s starts k w) (c
 
   step-is : stepsTextOf s w ≡ ascii "/" ++ (decimal (stepIn (stepsOf s w) 0 .label) ++ tested)
   unfolding tested
-  step-is = one-step (questionsOf s) (stepsOf s w) (omega (arith, length-steps s (w .start) (w .count)))
+  step-is = one-step (questionsOf s) (stepsOf s w) (omega (arith, length-steps (w .version) s (w .start) (w .count)))
 
   module _ (room : List ℕ) (at : ℕ) (a : ℕ) (d : a ≡ stepIn (stepsOf s w) 0 .label) where
     step-text : stepsTextOf s w ≡ labelText a ++ tested

@@ -1,15 +1,17 @@
 -- Worked texts, chains and answers, computed by the definitions.
 use mathlib.Core.List.{List, [], _∷_, map}
 use mathlib.Core.Path.{_≡_, refl}
-use Prim.Native.Nat.{ℕ, zero, suc}
+use Prim.Native.Nat.{ℕ, zero, suc, _+_}
+use lib.ListN.{length}
 use Rattle.fields.specs.Fields.{field}
+use Rattle.fields.specs.Label.{labelWidth}
 use Rattle.theory.specs.Graph.{same, differ}
 use Rattle.theory.specs.Expression.{NodeExpr, neg, always}
-use Rattle.sheet.specs.Entry.{Step, Entry, truth, negation, conjunction, disjunction, way, comparison, entryWith, numbers, spellWay, spell, extend, expressions}
+use Rattle.sheet.specs.Entry.{Step, Entry, truth, negation, conjunction, disjunction, way, comparison, entryWith, tests, numbers, spellWay, spell, extend, expressions}
 use Rattle.sheet.specs.Sheet.{entryOf, stepsAt, entriesAt, headRefusal, stepCounts, tooLarge, required, numbersRefusal, bodyRefusal, kindRefusal, entryRefusal, entriesRefusal, sheetRefusal}
 use Rattle.text.specs.Text.{ascii, numeral}
 use Rattle.question_measure.specs.Text.{signText, orStay, stepsText, questionText, wayChain, chain}
-use Rattle.question_text.specs.Answer.{questionAnswer, lengthAnswer, withRoom, writeAnswer, leftBy, writeLeaves}
+use Rattle.question_text.specs.Answer.{textOf, questionAnswer, lengthAnswer, withRoom, writeAnswer, leftBy, writeLeaves}
 use Rattle.question_text.specs.declared.TextAnswer.the-variants.{Length, SheetRefused, Refused}
 
 -- A step.
@@ -58,3 +60,25 @@ answers = refl
 pub rooms : writeLeaves sheetTwo 0 (7 ∷ 7 ∷ 7 ∷ 7 ∷ []) ∷ writeLeaves sheetTwo 1 (7 ∷ 7 ∷ []) ∷ [] ≡ (60 ∷ 46 ∷ 62 ∷ 7 ∷ []) ∷ (7 ∷ 7 ∷ []) ∷ []
 unfolding leftBy lengthAnswer withRoom questionAnswer chain wayChain questionText stepsText orStay expressions extend spell spellWay sheetRefusal headRefusal entriesRefusal entryRefusal kindRefusal bodyRefusal numbersRefusal required tooLarge stepCounts entryOf entryWith numbers field entriesAt stepsAt
 rooms = refl
+
+-- A sheet of two entries: true, and the way of one step, of the bytes given.
+abbrev sheetWay : ℕ → List ℕ → List ℕ
+sheetWay version step = 0 ∷ 0 ∷ 0 ∷ (13 + length step) ∷ version ∷ 1 ∷ 0 ∷ 2 ∷ 1 ∷ 0 ∷ (2 + length step) ∷ 4 ∷ 1 ∷ step
+
+-- The step by the largest label of version 1, 255, and of version 2, 65,535, with a test of entry 0.
+abbrev narrow : List ℕ
+narrow = 255 ∷ 0 ∷ 0 ∷ []
+
+abbrev wide : List ℕ
+wide = 255 ∷ 255 ∷ 0 ∷ 0 ∷ []
+
+-- Their texts, each in its version.
+pub labels : textOf (sheetWay 1 narrow) 1 ∷ textOf (sheetWay 2 wide) 1 ∷ [] ≡ ascii "</255[<.>]>" ∷ ascii "</65535[<.>]>" ∷ []
+unfolding questionText stepsText orStay numeral expressions extend spell spellWay stepCounts entryOf entryWith field labelWidth entriesAt stepsAt
+labels = refl
+
+-- The lengths, in each version: a step of the other has a byte too many or too few.
+pub versions : lengthAnswer (sheetWay 1 narrow) 1 ∷ lengthAnswer (sheetWay 1 wide) 1 ∷ lengthAnswer (sheetWay 2 narrow) 1 ∷ lengthAnswer (sheetWay 2 wide) 1 ∷ []
+    ≡ Length 11 ∷ SheetRefused 14 ∷ SheetRefused 14 ∷ Length 13 ∷ []
+unfolding lengthAnswer questionAnswer chain wayChain questionText stepsText orStay numeral expressions extend spell spellWay sheetRefusal headRefusal entriesRefusal entryRefusal kindRefusal bodyRefusal numbersRefusal required tooLarge stepCounts entryOf entryWith numbers tests field labelWidth entriesAt stepsAt
+versions = refl

@@ -7,8 +7,8 @@ use lib.Dec.{eqb}
 use lib.ListN.{length}
 use Rattle.theory.specs.Graph.{same, differ}
 use Rattle.theory.specs.Expression.{NodeExpr}
-use Rattle.sheet.specs.Entry.{onlyVersion, spellWay, expressions, tests, mostSteps, Below}
-use Rattle.sheet.specs.Sheet.{countOf, stepWidth, entriesOf, entryStart, sheetRefusal}
+use Rattle.sheet.specs.Entry.{secondWay, spellWay, expressions, tests, Below}
+use Rattle.sheet.specs.Sheet.{countOf, stepWidth, entryAt, entriesOf, entryStart, sheetRefusal}
 use Rattle.sheet.specs.Reading.{stepsOf}
 use Rattle.sheet.specs.declared.Steps.{Steps}
 use Rattle.text.specs.Text.{decimal}
@@ -43,8 +43,7 @@ pub record Entered (s starts : List ℕ) (k start : ℕ) : Type 0 where
 -- The steps of a way of entry k.
 pub record WayOf (s starts : List ℕ) (k : ℕ) (w : Steps) : Type 0 where
   pub started : Started s starts k
-  pub inside : w .start + stepWidth onlyVersion * w .count ≤ length s
-  pub few : w .count ≤ mostSteps onlyVersion
+  pub inside : w .start + stepWidth (w .version) * w .count ≤ length s
   pub earlier : Below k (tests (stepsOf s w))
 
 -- The start of a step: a slash and its label.
@@ -63,6 +62,6 @@ stepsTextOf s w = stepsText (spellWay (questionsOf s) (stepsOf s w))
 abbrev pub wayTextOf : List ℕ → Steps → List ℕ
 wayTextOf s w = wayText (spellWay (questionsOf s) (stepsOf s w))
 
--- What follows the first way of a same (kind 5) or a differ (kind 6): its sign, its second way, and the end.
-abbrev pub secondText : List ℕ → ℕ → Steps → List ℕ
-secondText s kind w = signBy kind ++ (wayTextOf s w ++ (62 ∷ []))
+-- What follows the first way of the same (kind 5) or differ (kind 6) at `start`: its sign, its second way, and the end.
+abbrev pub secondText : List ℕ → ℕ → ℕ → List ℕ
+secondText s kind start = signBy kind ++ (wayText (spellWay (questionsOf s) (secondWay (entryAt s start))) ++ (62 ∷ []))

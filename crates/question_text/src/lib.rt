@@ -231,25 +231,26 @@ fn put_comparison(
     ensures { λ r. ⌜ PutBytes (now (room .entry)) at (textOf (now (sheet .entry)) k) (now (room .exit)) r ⌝ }
 {
     let first = sheet::first_way(sheet, start);
-    let second = sheet::second_way(sheet, start);
     let next = text::put_byte(room, at, b'<');
     let next = put_way(sheet, starts, k, first, room, next);
-    put_second(sheet, starts, k, second, kind, room, next)
+    put_second(sheet, starts, k, start, kind, room, next)
 }
 
-// Writes the sign of a same (kind 5) or a differ (kind 6) of entry k, its second way, and its end.
+// Writes the sign of the same (kind 5) or differ (kind 6) of entry k, its second way, and its end. (The way is read here, so that it need not be kept
+// while the first is written.)
 fn put_second(
     sheet: &[u8],
     starts: &[u32],
     k: usize,
-    way: Steps,
+    start: usize,
     kind: u8,
     room: &mut [u8],
     at: usize,
 ) -> usize
-    requires { ⌜ WayOf (now sheet) (now starts) k way × (at + length (secondText (now sheet) kind way) ≤ length (now room)) ⌝ }
-    ensures { λ r. ⌜ PutBytes (now (room .entry)) at (secondText (now (sheet .entry)) kind way) (now (room .exit)) r ⌝ }
+    requires { ⌜ Entered (now sheet) (now starts) k start × (kind ≡ kindOf (entryAt (now sheet) start)) × (5 ≤ kind) × (at + length (secondText (now sheet) kind start) ≤ length (now room)) ⌝ }
+    ensures { λ r. ⌜ PutBytes (now (room .entry)) at (secondText (now (sheet .entry)) kind start) (now (room .exit)) r ⌝ }
 {
+    let way = sheet::second_way(sheet, start);
     let next = put_sign(room, at, kind);
     let next = put_way(sheet, starts, k, way, room, next);
     text::put_byte(room, next, b'>')
@@ -280,6 +281,7 @@ fn put_steps(
     requires { ⌜ WayOf (now sheet) (now starts) k steps × (at + length (stepsTextOf (now sheet) steps) ≤ length (now room)) ⌝ }
     ensures { λ r. ⌜ PutBytes (now (room .entry)) at (stepsTextOf (now (sheet .entry)) steps) (now (room .exit)) r ⌝ }
 {
+    let version = steps.version;
     let mut from = steps.start;
     let mut next = at;
     let mut left = steps.count;
@@ -287,9 +289,10 @@ fn put_steps(
         let step = Steps {
             start: from,
             count: 1,
+            version,
         };
         next = put_step(sheet, starts, k, step, room, next);
-        from += sheet::STEP;
+        from += sheet::steps_size(version, 1);
         left -= 1;
     }
     next

@@ -10,9 +10,9 @@ use borrow.Author.Tests.{ltb-true, ltb-false, eqb-true, eqb-false}
 use lib.Dec.{eqb, ltb}
 use lib.ListN.{length, getD}
 use Rattle.theory.specs.Bound.{Within}
-use Rattle.sheet.specs.Entry.{onlyVersion, truth, entryWith, kindOf, numbers, Short, Below, WellFormedEntry, WellFormedFrom, WellFormed, spell, expressions}
+use Rattle.sheet.specs.Entry.{truth, entryWith, kindOf, numbers, Short, Below, WellFormedEntry, WellFormedFrom, WellFormed, spell, expressions}
 use Rattle.sheet.specs.ExpressionLaws.{expression-within, expression-is}
-use Rattle.sheet.specs.Sheet.{boundOf, countOf, headSize, mostKind, stepWidth, stepsAt, entryOf, entryAt, nextAt, entriesAt, startFrom, entriesOf, entryStart, questionOf, tooLarge, numbersRefusal, entryRefusal, entriesRefusal, sheetRefusal, sheetAnswer}
+use Rattle.sheet.specs.Sheet.{versionOf, boundOf, countOf, headSize, mostKind, stepWidth, stepsAt, entryOf, entryIn, entryAt, nextAt, entriesAt, startFrom, entriesOf, entryStart, questionOf, tooLarge, numbersRefusal, entryRefusal, entriesRefusal, sheetRefusal, sheetAnswer}
 use Rattle.outcome.specs.RefusalLaws.{first-zero}
 use Rattle.sheet.specs.PassedLaws.{EntryPassed, standing, accepted-entries}
 use Rattle.sheet.specs.declared.SheetAnswer.the-variants.{Accepted, Refused}
@@ -29,7 +29,7 @@ below n (i ∷ is) h = go (ltb i n) refl h (below n is)
     go false e h f = absurd (omega arith)
 
 -- a law of every kind, from its cases
-pub kind-cases : (P : ℕ → Type 0) → P 0 → P 1 → P 2 → P 3 → P 4 → P 5 → P 6 → (k : ℕ) → k ≤ mostKind onlyVersion → P k
+pub kind-cases : (P : ℕ → Type 0) → P 0 → P 1 → P 2 → P 3 → P 4 → P 5 → P 6 → (k : ℕ) → k ≤ mostKind → P k
 kind-cases P p0 p1 p2 p3 p4 p5 p6 zero h = p0
 kind-cases P p0 p1 p2 p3 p4 p5 p6 (suc zero) h = p1
 kind-cases P p0 p1 p2 p3 p4 p5 p6 (suc (suc zero)) h = p2
@@ -39,54 +39,54 @@ kind-cases P p0 p1 p2 p3 p4 p5 p6 (suc (suc (suc (suc (suc zero))))) h = p5
 kind-cases P p0 p1 p2 p3 p4 p5 p6 (suc (suc (suc (suc (suc (suc zero)))))) h = p6
 kind-cases P p0 p1 p2 p3 p4 p5 p6 (suc (suc (suc (suc (suc (suc (suc k))))))) h = absurd (omega arith)
 
-pub length-steps : (s : List ℕ) (at k : ℕ) → length (stepsAt s at k) ≡ k
+pub length-steps : (v : ℕ) (s : List ℕ) (at k : ℕ) → length (stepsAt v s at k) ≡ k
 unfolding stepsAt
-length-steps s at zero = refl
-length-steps s at (suc k) = ap suc (length-steps s (at + stepWidth onlyVersion) k)
+length-steps v s at zero = refl
+length-steps v s at (suc k) = ap suc (length-steps v s (at + stepWidth v) k)
 
 -- the kind byte is the kind of the entry
-pub kind-of-entry : (s : List ℕ) (at k : ℕ) → k ≤ mostKind onlyVersion → kindOf (entryOf k s at) ≡ k
+pub kind-of-entry : (v : ℕ) (s : List ℕ) (at k : ℕ) → k ≤ mostKind → kindOf (entryOf v k s at) ≡ k
 unfolding kindOf entryOf entryWith
-kind-of-entry s at k h = kind-cases (λ k. kindOf (entryOf k s at) ≡ k) refl refl refl refl refl refl refl k h
+kind-of-entry v s at k h = kind-cases (λ k. kindOf (entryOf v k s at) ≡ k) refl refl refl refl refl refl refl k h
 
-both-small : (c : ℕ) (s : List ℕ) (at at′ k j : ℕ) → (ltb c k || ltb c j) ≡ false → (length (stepsAt s at k) ≤ c) × (length (stepsAt s at′ j) ≤ c)
-both-small c s at at′ k j h = rw (length-steps s at k, length-steps s at′ j) (go (ltb c k) refl h)
+both-small : (v c : ℕ) (s : List ℕ) (at at′ k j : ℕ) → (ltb c k || ltb c j) ≡ false → (length (stepsAt v s at k) ≤ c) × (length (stepsAt v s at′ j) ≤ c)
+both-small v c s at at′ k j h = rw (length-steps v s at k, length-steps v s at′ j) (go (ltb c k) refl h)
   where
     go : (b : Bool) → ltb c k ≡ b → (b || ltb c j) ≡ false → (k ≤ c) × (j ≤ c)
     go true e h = absurd (false≢true (sym h))
     go false e h = (ltb-false c k e, ltb-false c j h)
 
-short : (c : ℕ) (s : List ℕ) (at k : ℕ) → k ≤ mostKind onlyVersion → tooLarge c k s at ≡ false → Short c (entryOf k s at)
+short : (v c : ℕ) (s : List ℕ) (at k : ℕ) → k ≤ mostKind → tooLarge v c k s at ≡ false → Short v c (entryOf v k s at)
 unfolding tooLarge entryOf entryWith Short
-short c s at k h =
-    kind-cases (λ k. tooLarge c k s at ≡ false → Short c (entryOf k s at)) (λ h. tt) (λ h. tt) (λ h. tt) (λ h. tt)
-    (λ h. rw length-steps (ltb-false _ _ h)) (both-small c s _ _ _ _) (both-small c s _ _ _ _) k h
+short v c s at k h =
+    kind-cases (λ k. tooLarge v c k s at ≡ false → Short v c (entryOf v k s at)) (λ h. tt) (λ h. tt) (λ h. tt) (λ h. tt)
+    (λ h. rw length-steps (ltb-false _ _ h)) (both-small v c s _ _ _ _) (both-small v c s _ _ _ _) k h
 
-pub well-formed-entry : {s : List ℕ} {c n at : ℕ} → EntryPassed s c n at → WellFormedEntry c n (entryAt s at)
+pub well-formed-entry : {v : ℕ} {s : List ℕ} {c n at : ℕ} → EntryPassed v s c n at → WellFormedEntry v c n (entryIn v s at)
 unfolding entryOf entryWith
-well-formed-entry {s} {c} {n} {at} e =
+well-formed-entry {v} {s} {c} {n} {at} e =
     record {
       first = λ z. rw (e .first z);
-      short = short c s (at + 2) (getD s (at + 1) 0) (e .known) (e .body .small);
-      earlier = below n (numbers (entryAt s at)) (e .body .earlier);
+      short = short v c s (at + 2) (getD s (at + 1) 0) (e .known) (e .body .small);
+      earlier = below n (numbers (entryIn v s at)) (e .body .earlier);
     }
 
 -- ---- the entries of a sheet
 
-module _ (s : List ℕ) (c : ℕ) where
+module _ (v : ℕ) (s : List ℕ) (c : ℕ) where
   -- the first entry stands, and the others are not refused
-  first-and-rest : (n at q : ℕ) → entriesRefusal s c n at (suc q) ≡ 0 → EntryPassed s c n at × (entriesRefusal s c (n + 1) (nextAt s at) q ≡ 0)
+  first-and-rest : (n at q : ℕ) → entriesRefusal v s c n at (suc q) ≡ 0 → EntryPassed v s c n at × (entriesRefusal v s c (n + 1) (nextAt s at) q ≡ 0)
   unfolding entriesRefusal
-  first-and-rest n at q h = let (a, b) = first-zero (entryRefusal s c n at) h in (standing s c n at a, b)
+  first-and-rest n at q h = let (a, b) = first-zero (entryRefusal v s c n at) h in (standing v s c n at a, b)
 
-  entries-well-formed : (n at q : ℕ) → entriesRefusal s c n at q ≡ 0 → WellFormedFrom c n (entriesAt s at q)
+  entries-well-formed : (n at q : ℕ) → entriesRefusal v s c n at q ≡ 0 → WellFormedFrom v c n (entriesAt v s at q)
   unfolding WellFormedFrom entriesAt
   entries-well-formed n at zero h = tt
   entries-well-formed n at (suc q) h =
       let (a, b) = first-and-rest n at q h in
       (well-formed-entry a, rw (← add-one n) (entries-well-formed (n + 1) (nextAt s at) q b))
 
-  entries-standing : (n at q k : ℕ) → entriesRefusal s c n at q ≡ 0 → k < q → EntryPassed s c (n + k) (startFrom s at k)
+  entries-standing : (n at q k : ℕ) → entriesRefusal v s c n at q ≡ 0 → k < q → EntryPassed v s c (n + k) (startFrom s at k)
   unfolding startFrom
   entries-standing n at zero k h l = absurd (not-suc-le-zero l)
   entries-standing n at (suc q) zero h l = rw add-zero (first-and-rest n at q h .0)
@@ -94,16 +94,16 @@ module _ (s : List ℕ) (c : ℕ) where
       rw (let e : n + suc k ≡ n + 1 + k = omega arith in e)
       (entries-standing (n + 1) (nextAt s at) q k (first-and-rest n at q h .1) (le-of-suc-le-suc l))
 
-pub length-entriesAt : (s : List ℕ) (at q : ℕ) → length (entriesAt s at q) ≡ q
+pub length-entriesAt : (v : ℕ) (s : List ℕ) (at q : ℕ) → length (entriesAt v s at q) ≡ q
 unfolding entriesAt
-length-entriesAt s at zero = refl
-length-entriesAt s at (suc q) = ap suc (length-entriesAt s (nextAt s at) q)
+length-entriesAt v s at zero = refl
+length-entriesAt v s at (suc q) = ap suc (length-entriesAt v s (nextAt s at) q)
 
-entriesAt-at : (s : List ℕ) (at q k : ℕ) → k < q → getD (entriesAt s at q) k truth ≡ entryAt s (startFrom s at k)
+entriesAt-at : (v : ℕ) (s : List ℕ) (at q k : ℕ) → k < q → getD (entriesAt v s at q) k truth ≡ entryIn v s (startFrom s at k)
 unfolding entriesAt startFrom
-entriesAt-at s at zero k h = absurd (not-suc-le-zero h)
-entriesAt-at s at (suc q) zero h = refl
-entriesAt-at s at (suc q) (suc k) h = entriesAt-at s (nextAt s at) q k (le-of-suc-le-suc h)
+entriesAt-at v s at zero k h = absurd (not-suc-le-zero h)
+entriesAt-at v s at (suc q) zero h = refl
+entriesAt-at v s at (suc q) (suc k) h = entriesAt-at v s (nextAt s at) q k (le-of-suc-le-suc h)
 
 start-next : (s : List ℕ) (at k : ℕ) → startFrom s at (suc k) ≡ nextAt s (startFrom s at k)
 unfolding startFrom
@@ -112,11 +112,11 @@ start-next s at (suc k) = start-next s (nextAt s at) k
 
 module _ (s : List ℕ) where
   pub length-entriesOf : length (entriesOf s) ≡ countOf s
-  length-entriesOf = length-entriesAt s headSize (countOf s)
+  length-entriesOf = length-entriesAt (versionOf s) s headSize (countOf s)
 
   -- entry k is read where it starts
   pub entriesOf-at : (k : ℕ) → k < countOf s → getD (entriesOf s) k truth ≡ entryAt s (entryStart s k)
-  entriesOf-at = entriesAt-at s headSize (countOf s)
+  entriesOf-at = entriesAt-at (versionOf s) s headSize (countOf s)
 
   pub entryStart-zero : entryStart s 0 ≡ headSize
   unfolding startFrom
@@ -128,16 +128,16 @@ module _ (s : List ℕ) where
 -- ---- an accepted sheet
 
 module _ (s : List ℕ) (good : sheetRefusal s ≡ 0) where
-  pub accepted-well-formed : WellFormed (boundOf s) (entriesOf s)
-  accepted-well-formed = record { each = entries-well-formed s (boundOf s) 0 headSize (countOf s) (accepted-entries s good) }
+  pub accepted-well-formed : WellFormed (versionOf s) (boundOf s) (entriesOf s)
+  accepted-well-formed = record { each = entries-well-formed (versionOf s) s (boundOf s) 0 headSize (countOf s) (accepted-entries s good) }
 
   -- each of its questions keeps to its bound
   pub accepted-within : (k : ℕ) → Within (boundOf s) (questionOf s k)
   accepted-within = expression-within accepted-well-formed
 
   -- each of its entries passes the check where it starts
-  pub accepted-standing : (k : ℕ) → k < countOf s → EntryPassed s (boundOf s) k (entryStart s k)
-  accepted-standing k h = rw zero-add at (entries-standing s (boundOf s) 0 headSize (countOf s) k (accepted-entries s good) h)
+  pub accepted-standing : (k : ℕ) → k < countOf s → EntryPassed (versionOf s) s (boundOf s) k (entryStart s k)
+  accepted-standing k h = rw zero-add at (entries-standing (versionOf s) s (boundOf s) 0 headSize (countOf s) k (accepted-entries s good) h)
 
   -- "an entry's question is the one it spells when every number in it is read as the question of the entry named"
   pub accepted-question : (k : ℕ) → k < countOf s → questionOf s k ≡ spell (expressions (entriesOf s)) (entryAt s (entryStart s k))

@@ -8,7 +8,7 @@ use lib.ListN.{length, getD}
 use Rattle.theory.specs.Graph.{Comparison, same, differ}
 use Rattle.theory.specs.Expression.{PathExpr, NodeExpr, stay, step, test, seq, neg, conj, disj, exists, compare, always}
 
--- "A step is a label byte and the number of a test at the cell reached."
+-- "A step is a label" ("byte" in version 1) "and the number of a test at the cell reached."
 pub record Step : Type 0 where
   pub label : ℕ
   pub test : ℕ
@@ -114,39 +114,35 @@ numbers (disjunction i j) = i ∷ j ∷ []
 numbers (way s) = tests s
 numbers (comparison t s s′) = tests s ++ tests s′
 
--- The version that there is ("byte 4: version 1").
-abbrev pub onlyVersion : ℕ
-onlyVersion = 1
-
 -- The most steps of kind 4 in a sheet of version v.
 abbrev pub mostSteps : ℕ → ℕ
 mostSteps v = 60
 
--- "k is at most 60 in kind 4, at most c in kinds 5 and 6."
-unfoldable pub Short : ℕ → Entry → Type 0
-Short c truth = Unit {0}
-Short c (negation i) = Unit {0}
-Short c (conjunction i j) = Unit {0}
-Short c (disjunction i j) = Unit {0}
-Short c (way s) = length s ≤ mostSteps onlyVersion
-Short c (comparison t s s′) = (length s ≤ c) × (length s′ ≤ c)
+-- "k is at most 60 in kind 4, at most c in kinds 5 and 6", in version v.
+unfoldable pub Short : ℕ → ℕ → Entry → Type 0
+Short v c truth = Unit {0}
+Short v c (negation i) = Unit {0}
+Short v c (conjunction i j) = Unit {0}
+Short v c (disjunction i j) = Unit {0}
+Short v c (way s) = length s ≤ mostSteps v
+Short v c (comparison t s s′) = (length s ≤ c) × (length s′ ≤ c)
 
 -- Every number is below n.
 unfoldable pub Below : ℕ → List ℕ → Type 0
 Below n [] = Unit {0}
 Below n (i ∷ is) = (i < n) × Below n is
 
--- The entry may stand as number n of a sheet for the bound c: "entry 0 is kind 0"; its step counts; each number in it "names an earlier entry".
-pub record WellFormedEntry (c n : ℕ) (e : Entry) : Type 0 where
+-- The entry may stand as number n of a sheet of version v for the bound c: "entry 0 is kind 0"; its step counts; each number in it "names an earlier entry".
+pub record WellFormedEntry (v c n : ℕ) (e : Entry) : Type 0 where
   pub first : n ≡ 0 → e ≡ truth
-  pub short : Short c e
+  pub short : Short v c e
   pub earlier : Below n (numbers e)
 
 -- The entries may stand from number n on.
-unfoldable pub WellFormedFrom : ℕ → ℕ → List Entry → Type 0
-WellFormedFrom c n [] = Unit {0}
-WellFormedFrom c n (e ∷ es) = WellFormedEntry c n e × WellFormedFrom c (suc n) es
+unfoldable pub WellFormedFrom : ℕ → ℕ → ℕ → List Entry → Type 0
+WellFormedFrom v c n [] = Unit {0}
+WellFormedFrom v c n (e ∷ es) = WellFormedEntry v c n e × WellFormedFrom v c (suc n) es
 
--- The entries of a sheet for the bound c, numbered from 0.
-pub record WellFormed (c : ℕ) (es : List Entry) : Type 0 where
-  pub each : WellFormedFrom c 0 es
+-- The entries of a sheet of version v for the bound c, numbered from 0.
+pub record WellFormed (v c : ℕ) (es : List Entry) : Type 0 where
+  pub each : WellFormedFrom v c 0 es

@@ -64,25 +64,25 @@ expression-last es e = rw (expressions-snoc, ← length-expressions es) (getD-ap
 
 -- ---- well-formed entries
 
-pub well-formed-append : (c n : ℕ) (es fs : List Entry) → WellFormedFrom c n es → WellFormedFrom c (n + length es) fs → WellFormedFrom c n (es ++ fs)
+pub well-formed-append : (v c n : ℕ) (es fs : List Entry) → WellFormedFrom v c n es → WellFormedFrom v c (n + length es) fs → WellFormedFrom v c n (es ++ fs)
 unfolding WellFormedFrom
-well-formed-append c n [] fs h k = rw (← add-zero n) k
-well-formed-append c n (e ∷ es) fs h k =
-    (h .0, well-formed-append c (suc n) es fs (h .1) (rw (let t : suc n + length es ≡ n + suc (length es) = omega arith in t) k))
+well-formed-append v c n [] fs h k = rw (← add-zero n) k
+well-formed-append v c n (e ∷ es) fs h k =
+    (h .0, well-formed-append v c (suc n) es fs (h .1) (rw (let t : suc n + length es ≡ n + suc (length es) = omega arith in t) k))
 
-pub well-formed-snoc : {c : ℕ} {es : List Entry} → WellFormed c es → (e : Entry) → WellFormedEntry c (length es) e → WellFormed c (es ++ (e ∷ []))
+pub well-formed-snoc : {v c : ℕ} {es : List Entry} → WellFormed v c es → (e : Entry) → WellFormedEntry v c (length es) e → WellFormed v c (es ++ (e ∷ []))
 unfolding WellFormedFrom
-well-formed-snoc {c} {es} w e h = record { each = well-formed-append c 0 es (e ∷ []) (w .each) (rw zero-add (h, tt)) }
+well-formed-snoc {v} {c} {es} w e h = record { each = well-formed-append v c 0 es (e ∷ []) (w .each) (rw zero-add (h, tt)) }
 
-well-formed-from-at : (c n : ℕ) (es : List Entry) (i : ℕ) → WellFormedFrom c n es → i < length es → WellFormedEntry c (n + i) (getD es i truth)
+well-formed-from-at : (v c n : ℕ) (es : List Entry) (i : ℕ) → WellFormedFrom v c n es → i < length es → WellFormedEntry v c (n + i) (getD es i truth)
 unfolding WellFormedFrom
-well-formed-from-at c n [] i f h = absurd (not-suc-le-zero h)
-well-formed-from-at c n (e ∷ es) zero f h = rw add-zero (f .0)
-well-formed-from-at c n (e ∷ es) (suc i) f h =
-    rw (let t : n + suc i ≡ suc n + i = omega arith in t) (well-formed-from-at c (suc n) es i (f .1) (le-of-suc-le-suc h))
+well-formed-from-at v c n [] i f h = absurd (not-suc-le-zero h)
+well-formed-from-at v c n (e ∷ es) zero f h = rw add-zero (f .0)
+well-formed-from-at v c n (e ∷ es) (suc i) f h =
+    rw (let t : n + suc i ≡ suc n + i = omega arith in t) (well-formed-from-at v c (suc n) es i (f .1) (le-of-suc-le-suc h))
 
-pub well-formed-at : {c : ℕ} {es : List Entry} → WellFormed c es → (i : ℕ) → i < length es → WellFormedEntry c i (getD es i truth)
-well-formed-at {c} {es} w i h = rw zero-add at (well-formed-from-at c 0 es i (w .each) h)
+pub well-formed-at : {v c : ℕ} {es : List Entry} → WellFormed v c es → (i : ℕ) → i < length es → WellFormedEntry v c i (getD es i truth)
+well-formed-at {v} {c} {es} w i h = rw zero-add at (well-formed-from-at v c 0 es i (w .each) h)
 
 -- ---- the bound
 
@@ -101,14 +101,14 @@ module _ (c : ℕ) (qs : List NodeExpr) (k : Keeping c qs) where
   spell-way-within [] = tt
   spell-way-within (s ∷ ss) = (tt, (k (s .test), spell-way-within ss))
 
-  spell-within : (e : Entry) → Short c e → Within c (spell qs e)
+  spell-within : (v : ℕ) (e : Entry) → Short v c e → Within c (spell qs e)
   unfolding spell Within Short
-  spell-within truth h = tt
-  spell-within (negation i) h = k i
-  spell-within (conjunction i j) h = (k i, k j)
-  spell-within (disjunction i j) h = (k i, k j)
-  spell-within (way s) h = spell-way-within s
-  spell-within (comparison t s s′) h = (rw spell-way-len (h .0), rw spell-way-len (h .1), spell-way-within s, spell-way-within s′)
+  spell-within v truth h = tt
+  spell-within v (negation i) h = k i
+  spell-within v (conjunction i j) h = (k i, k j)
+  spell-within v (disjunction i j) h = (k i, k j)
+  spell-within v (way s) h = spell-way-within s
+  spell-within v (comparison t s s′) h = (rw spell-way-len (h .0), rw spell-way-len (h .1), spell-way-within s, spell-way-within s′)
 
 keeping-snoc : (c : ℕ) (qs : List NodeExpr) → Keeping c qs → (q : NodeExpr) → Within c q → Keeping c (qs ++ (q ∷ []))
 keeping-snoc c [] k q w zero = w
@@ -116,16 +116,16 @@ keeping-snoc c [] k q w (suc i) = k 0
 keeping-snoc c (p ∷ qs) k q w zero = k 0
 keeping-snoc c (p ∷ qs) k q w (suc i) = keeping-snoc c qs (λ j. k (suc j)) q w i
 
-extend-within : (c n : ℕ) (qs : List NodeExpr) (es : List Entry) → Keeping c qs → WellFormedFrom c n es → Keeping c (extend qs es)
+extend-within : (v c n : ℕ) (qs : List NodeExpr) (es : List Entry) → Keeping c qs → WellFormedFrom v c n es → Keeping c (extend qs es)
 unfolding extend WellFormedFrom
-extend-within c n qs [] k h = k
-extend-within c n qs (e ∷ es) k h =
-    extend-within c (suc n) (qs ++ (spell qs e ∷ [])) es (keeping-snoc c qs k (spell qs e) (spell-within c qs k e (h .0 .short))) (h .1)
+extend-within v c n qs [] k h = k
+extend-within v c n qs (e ∷ es) k h =
+    extend-within v c (suc n) (qs ++ (spell qs e ∷ [])) es (keeping-snoc c qs k (spell qs e) (spell-within c qs k v e (h .0 .short))) (h .1)
 
 -- every expression of well-formed entries keeps to their bound
-pub expression-within : {c : ℕ} {es : List Entry} → WellFormed c es → (i : ℕ) → Within c (expression es i)
+pub expression-within : {v c : ℕ} {es : List Entry} → WellFormed v c es → (i : ℕ) → Within c (expression es i)
 unfolding expressions Within
-expression-within {c} {es} w = extend-within c 0 [] es (λ i. tt) (w .each)
+expression-within {v} {c} {es} w = extend-within v c 0 [] es (λ i. tt) (w .each)
 
 -- ---- an entry's question is the one it spells when every number in it is read as the question of the entry named
 
@@ -172,8 +172,8 @@ expression-between es e fs h = here ∙ sym there
         let (more, p) = extend-front (expressions es) (e ∷ fs) in
         rw (extend-append, p) (same-spell (expressions es) more (length es) (omega (arith, length-expressions es)) e h)
 
-pub expression-is : {c : ℕ} {es : List Entry} → WellFormed c es → (i : ℕ) → i < length es → expression es i ≡ spell (expressions es) (getD es i truth)
-expression-is {c} {es} w i h = go (take i es) (drop (suc i) es) (split-at es i truth h) (length-take-le i es (omega arith))
+pub expression-is : {v c : ℕ} {es : List Entry} → WellFormed v c es → (i : ℕ) → i < length es → expression es i ≡ spell (expressions es) (getD es i truth)
+expression-is {v} {c} {es} w i h = go (take i es) (drop (suc i) es) (split-at es i truth h) (length-take-le i es (omega arith))
   where
     go : (es₁ fs : List Entry) → es ≡ es₁ ++ (getD es i truth ∷ fs) → length es₁ ≡ i → expression es i ≡ spell (expressions es) (getD es i truth)
     go es₁ fs p q =

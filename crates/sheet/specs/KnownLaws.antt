@@ -56,23 +56,23 @@ module _ (s : List ℕ) (at m kind : ℕ) (o : EntryKnown s at m) (l : kindOf (e
 
 module _ (s : List ℕ) (at m : ℕ) (o : EntryKnown s at m) (p w : Steps) where
   pub first-known : Reads s p (firstWay (entryAt s at)) w → WayKnown s w m
-  first-known r = record { inside = r .inside; known = rw (r .steps) (ways-below m (entryAt s at) (o .known) .0) }
+  first-known r = record { few = r .few; inside = r .inside; known = rw (r .steps) (ways-below m (entryAt s at) (o .known) .0) }
 
   pub second-known : Reads s p (secondWay (entryAt s at)) w → WayKnown s w m
-  second-known r = record { inside = r .inside; known = rw (r .steps) (ways-below m (entryAt s at) (o .known) .1) }
+  second-known r = record { few = r .few; inside = r .inside; known = rw (r .steps) (ways-below m (entryAt s at) (o .known) .1) }
 
 -- ---- the steps of a way
 
 module _ (s : List ℕ) (w : Steps) (i m : ℕ) (h : i < w .count) (e : WayKnown s w m) where
   pub has-step : HasStep s w i
-  has-step = record { present = h; inside = e .inside }
+  has-step = record { present = h; few = e .few; inside = e .inside }
 
   pub test-known : (k : ℕ) → k ≡ stepIn (stepsOf s w) i .test → k < m
-  test-known k d = rw d (test-below m (stepsOf s w) i (e .known) (rw (length-steps s (w .start) (w .count)) h))
+  test-known k d = rw d (test-below m (stepsOf s w) i (e .known) (rw (length-steps (w .version) s (w .start) (w .count)) h))
 
 -- there are no steps from `count` on, and all are from 0 on
 pub none-left : (s : List ℕ) (w : Steps) → drop (w .count) (stepsOf s w) ≡ []
-none-left s w = drop-of-length-le (stepsOf s w) {i = w .count} (omega (arith, length-steps s (w .start) (w .count)))
+none-left s w = drop-of-length-le (stepsOf s w) {i = w .count} (omega (arith, length-steps (w .version) s (w .start) (w .count)))
 
 pub all-left : (ss : List Step) (left : ℕ) → left ≤ 0 → drop left ss ≡ ss
 all-left ss left h = rw (let e : left ≡ 0 = omega arith in e)
@@ -82,7 +82,7 @@ pub next-step : (s : List ℕ) (w : Steps) (left : ℕ) → 0 < left → left �
 next-step s w left p h =
     let ss = stepsOf s w in
     let e : suc (left - 1) ≡ left = omega arith in
-    drop-cons ss (left - 1) (record { label = 0; test = 0 }) (omega (arith, length-steps s (w .start) (w .count))) ∙ ap (λ i. stepIn ss (left - 1) ∷ drop i ss) e
+    drop-cons ss (left - 1) (record { label = 0; test = 0 }) (omega (arith, length-steps (w .version) s (w .start) (w .count))) ∙ ap (λ i. stepIn ss (left - 1) ∷ drop i ss) e
 
 -- ---- from entry to entry
 

@@ -4,8 +4,8 @@ ghost use mathlib.Core.List.{[], _∷_};
 ghost use Prim.Native.Nat.{_+_, _*_, _≤_, _<_};
 ghost use lib.ListN.{length, getD};
 ghost use Rattle.outcome.specs.Outcome.{code};
-ghost use Rattle.sheet.specs.Entry.{onlyVersion, kindOf, firstWay, secondWay, stepIn, tests, numbers};
-ghost use Rattle.sheet.specs.Sheet.{headSize, stepWidth, numberWidth, numberAt, stepsAt, entryAt, nextAt, entryStart, countOf, headRefusal, numbersRefusal, bodyRefusal, kindRefusal, entryRefusal, entriesRefusal, sheetRefusal, sheetAnswer, sheetOutcome};
+ghost use Rattle.sheet.specs.Entry.{kindOf, firstWay, secondWay, stepIn, tests, numbers};
+ghost use Rattle.sheet.specs.Sheet.{versionOf, headSize, stepWidth, numberWidth, numberAt, stepsAt, entryAt, nextAt, entryStart, countOf, headRefusal, numbersRefusal, bodyRefusal, kindRefusal, entryRefusal, entriesRefusal, sheetRefusal, sheetAnswer, sheetOutcome};
 ghost use Rattle.sheet.specs.Reading.{Readable, HasNumber, HasWay, HasStep, Reads, stepsOf, firstPlace, secondPlace};
 
 // The number of an entry.
@@ -17,16 +17,14 @@ pub enum SheetAnswer {
     Refused(u8),
 }
 
-// The bytes of the header, of a label, of a number and of a step.
+// The bytes of the header and of a number.
 const HEAD: usize = 8;
-
-pub const LABEL: usize = 1;
 
 const NUMBER: usize = 2;
 
-pub const STEP: usize = 3;
+// The latest version, the largest bound, the most entries, the largest kind, and the most steps of a way.
+pub const MOST_VERSION: u8 = 2;
 
-// The largest bound, the most entries, the largest kind, and the most steps of a way.
 pub const MOST_BOUND: u8 = 4;
 
 pub const MOST_ENTRIES: u16 = 16385;
@@ -57,6 +55,15 @@ fn wide(x: u8) -> usize
     x as usize
 }
 
+// The bytes of so many steps in a sheet of a version.
+pub fn steps_size(version: u8, count: usize) -> usize
+    requires { ⌜ count ≤ 512 ⌝ }
+    ensures { λ r. ⌜ (r ≡ stepWidth version * count) × (r ≤ 4 * count) ⌝ }
+{
+    let width = fields::label_width(version) + NUMBER;
+    width * count
+}
+
 // The refusal of the header, 0 where there is none.
 fn head_refusal(s: &[u8]) -> u8
     ensures { λ r. ⌜ r ≡ headRefusal (now (s .entry)) ⌝ }
@@ -69,7 +76,10 @@ fn head_refusal(s: &[u8]) -> u8
         return 2;
     }
     let v = s[4];
-    if v != 1 {
+    if v == 0 {
+        return 3;
+    }
+    if MOST_VERSION < v {
         return 3;
     }
     let c = s[5];
@@ -115,27 +125,29 @@ fn number_refusal(s: &[u8], n: u16, at: usize) -> u8
 }
 
 // 12 where one of the tests of `count` steps from `base` on does not name an entry before n, else 0.
-fn tests_refusal(s: &[u8], n: u16, base: usize, count: usize) -> u8
-    requires { ⌜ base + stepWidth onlyVersion * count ≤ length (now s) ⌝ }
-    ensures { λ r. ⌜ r ≡ numbersRefusal n (tests (stepsAt (now (s .entry)) base count)) ⌝ }
+fn tests_refusal(s: &[u8], v: u8, n: u16, base: usize, count: usize) -> u8
+    requires { ⌜ base + stepWidth v * count ≤ length (now s) ⌝ }
+    ensures { λ r. ⌜ r ≡ numbersRefusal n (tests (stepsAt v (now (s .entry)) base count)) ⌝ }
 {
+    let label = fields::label_width(v);
     let mut at = base;
     let mut left = count;
     while 0 < left {
-        let i = fields::get2(s, at + LABEL);
+        let i = fields::get2(s, at + label);
         if n <= i {
             return 12;
         }
-        at += STEP;
+        at += label + NUMBER;
         left -= 1;
     }
     0
 }
 
-// The refusal of the body of a true, not, and or or, 0 where there is none. It has no steps, so no bound matters.
+// The refusal of the body of a true, not, and or or, 0 where there is none. It has no steps, so neither the version nor the bound
+// matters.
 fn plain_refusal(s: &[u8], n: u16, kind: u8, at: usize, size: usize) -> u8
     requires { ⌜ (kind < 4) × (at + size ≤ length (now s)) ⌝ }
-    ensures { λ r. ⌜ r ≡ bodyRefusal (now (s .entry)) 0 n kind at size ⌝ }
+    ensures { λ r. ⌜ r ≡ bodyRefusal 0 (now (s .entry)) 0 n kind at size ⌝ }
 {
     if kind == KIND_TRUE {
         if size != 0 {
@@ -160,9 +172,9 @@ fn plain_refusal(s: &[u8], n: u16, kind: u8, at: usize, size: usize) -> u8
 }
 
 // The refusal of the body of a way, 0 where there is none. Its steps are not limited by the bound.
-fn way_refusal(s: &[u8], n: u16, at: usize, size: usize) -> u8
+fn way_refusal(s: &[u8], v: u8, n: u16, at: usize, size: usize) -> u8
     requires { ⌜ at + size ≤ length (now s) ⌝ }
-    ensures { λ r. ⌜ r ≡ bodyRefusal (now (s .entry)) 0 n 4 at size ⌝ }
+    ensures { λ r. ⌜ r ≡ bodyRefusal v (now (s .entry)) 0 n 4 at size ⌝ }
 {
     if size < 1 {
         return 14;
@@ -171,16 +183,16 @@ fn way_refusal(s: &[u8], n: u16, at: usize, size: usize) -> u8
     if MOST_STEPS < k {
         return 11;
     }
-    if size != 1 + STEP * k {
+    if size != 1 + steps_size(v, k) {
         return 14;
     }
-    tests_refusal(s, n, at + 1, k)
+    tests_refusal(s, v, n, at + 1, k)
 }
 
 // The refusal of the body of a same or a differ, 0 where there is none.
-fn comparison_refusal(s: &[u8], c: u8, n: u16, at: usize, size: usize) -> u8
+fn comparison_refusal(s: &[u8], v: u8, c: u8, n: u16, at: usize, size: usize) -> u8
     requires { ⌜ at + size ≤ length (now s) ⌝ }
-    ensures { λ r. ⌜ r ≡ bodyRefusal (now (s .entry)) c n 5 at size ⌝ }
+    ensures { λ r. ⌜ r ≡ bodyRefusal v (now (s .entry)) c n 5 at size ⌝ }
 {
     if size < 2 {
         return 14;
@@ -194,29 +206,29 @@ fn comparison_refusal(s: &[u8], c: u8, n: u16, at: usize, size: usize) -> u8
         return 11;
     }
     let count = wide(k) + wide(j);
-    if size != 2 + STEP * count {
+    if size != 2 + steps_size(v, count) {
         return 14;
     }
-    tests_refusal(s, n, at + 2, count)
+    tests_refusal(s, v, n, at + 2, count)
 }
 
 // The refusal of the body of entry n, 0 where there is none.
-fn body_refusal(s: &[u8], c: u8, n: u16, kind: u8, at: usize, size: usize) -> u8
+fn body_refusal(s: &[u8], v: u8, c: u8, n: u16, kind: u8, at: usize, size: usize) -> u8
     requires { ⌜ (at + size ≤ length (now s)) × (kind ≤ 6) ⌝ }
-    ensures { λ r. ⌜ r ≡ bodyRefusal (now (s .entry)) c n kind at size ⌝ }
+    ensures { λ r. ⌜ r ≡ bodyRefusal v (now (s .entry)) c n kind at size ⌝ }
 {
     if kind < KIND_WAY {
         return plain_refusal(s, n, kind, at, size);
     }
     if kind == KIND_WAY {
-        return way_refusal(s, n, at, size);
+        return way_refusal(s, v, n, at, size);
     }
-    comparison_refusal(s, c, n, at, size)
+    comparison_refusal(s, v, c, n, at, size)
 }
 
 // The refusal of entry n, which starts at `at`, 0 where there is none.
-fn entry_refusal(s: &[u8], c: u8, n: u16, at: usize) -> u8
-    ensures { λ r. ⌜ r ≡ entryRefusal (now (s .entry)) c n at ⌝ }
+fn entry_refusal(s: &[u8], v: u8, c: u8, n: u16, at: usize) -> u8
+    ensures { λ r. ⌜ r ≡ entryRefusal v (now (s .entry)) c n at ⌝ }
 {
     if s.len() <= at {
         return 9;
@@ -233,18 +245,19 @@ fn entry_refusal(s: &[u8], c: u8, n: u16, at: usize) -> u8
     if r != 0 {
         return r;
     }
-    body_refusal(s, c, n, kind, at + 2, count - 1)
+    body_refusal(s, v, c, n, kind, at + 2, count - 1)
 }
 
 // The refusal of q entries, of which the first follows the header, 0 where there is none.
 fn entries_refusal(s: &[u8], c: u8, q: u16) -> u8
     requires { ⌜ headSize ≤ length (now s) ⌝ }
-    ensures { λ r. ⌜ r ≡ entriesRefusal (now (s .entry)) c 0 headSize q ⌝ }
+    ensures { λ r. ⌜ r ≡ entriesRefusal (versionOf (now (s .entry))) (now (s .entry)) c 0 headSize q ⌝ }
 {
+    let v = s[4];
     let mut at = HEAD;
     let mut n: u16 = 0;
     while n < q {
-        let r = entry_refusal(s, c, n, at);
+        let r = entry_refusal(s, v, c, n, at);
         if r != 0 {
             return r;
         }
@@ -302,10 +315,11 @@ pub fn check_code(bytes: &[u8]) -> u64
 
 // ---- the entries of an accepted sheet, each read where it starts
 
-// Where the steps of a way stand in a sheet.
+// Where the steps of a way stand in a sheet, and the version in which they are written.
 pub struct Steps {
     pub start: usize,
     pub count: usize,
+    pub version: u8,
 }
 
 // The byte where the entry after the one at `at` starts.
@@ -352,16 +366,19 @@ pub fn first_way(s: &[u8], at: usize) -> Steps
     requires { ⌜ HasWay (now s) at 4 ⌝ }
     ensures { λ r. ⌜ Reads (now (s .entry)) (firstPlace (now (s .entry)) at) (firstWay (entryAt (now (s .entry)) at)) r ⌝ }
 {
+    let version = s[4];
     let count = wide(s[at + 2]);
-    if s[at + 1] == 4 {
+    if s[at + 1] == KIND_WAY {
         return Steps {
             start: at + 3,
             count,
+            version,
         };
     }
     Steps {
         start: at + 4,
         count,
+        version,
     }
 }
 
@@ -370,21 +387,24 @@ pub fn second_way(s: &[u8], at: usize) -> Steps
     requires { ⌜ HasWay (now s) at 5 ⌝ }
     ensures { λ r. ⌜ Reads (now (s .entry)) (secondPlace (now (s .entry)) at) (secondWay (entryAt (now (s .entry)) at)) r ⌝ }
 {
+    let version = s[4];
     let first = wide(s[at + 2]);
     let count = wide(s[at + 3]);
     Steps {
-        start: at + 4 + STEP * first,
+        start: at + 4 + steps_size(version, first),
         count,
+        version,
     }
 }
 
 // The label of step i of a way.
-pub fn label(s: &[u8], way: Steps, i: usize) -> u8
+pub fn label(s: &[u8], way: Steps, i: usize) -> u16
     requires { ⌜ HasStep (now s) way i ⌝ }
     ensures { λ r. ⌜ r ≡ stepIn (stepsOf (now (s .entry)) way) i .label ⌝ }
 {
     let start = way.start;
-    fields::get1(s, start + STEP * i)
+    let version = way.version;
+    fields::get_label(s, start + steps_size(version, i), version)
 }
 
 // The question that is tested after step i of a way.
@@ -393,5 +413,7 @@ pub fn test(s: &[u8], way: Steps, i: usize) -> Question
     ensures { λ r. ⌜ r .0 ≡ stepIn (stepsOf (now (s .entry)) way) i .test ⌝ }
 {
     let start = way.start;
-    Question(fields::get2(s, start + STEP * i + LABEL))
+    let version = way.version;
+    let at = start + steps_size(version, i);
+    Question(fields::get2(s, at + fields::label_width(version)))
 }

@@ -1,10 +1,11 @@
--- Writing a sheet into lent room: what an entry's writer leaves there, and what the room then holds.
+-- Writing a sheet of version v into lent room: what an entry's writer leaves there, and what the room then holds.
 use mathlib.Core.List.{List, [], _∷_, _++_}
 use mathlib.Core.Path.{_≡_}
-use Prim.Native.Nat.{ℕ, zero, suc, _+_, _*_, _≤_}
+use Prim.Native.Nat.{ℕ, zero, suc, _+_, _*_, _^_, _<_, _≤_}
 use lib.ListN.{length, getD, take, drop}
+use Rattle.fields.specs.Label.{labelWidth}
 use Rattle.fields.specs.Runs.{PutBytes}
-use Rattle.sheet.specs.Entry.{onlyVersion, Step, Entry}
+use Rattle.sheet.specs.Entry.{Step, Entry}
 use Rattle.sheet.specs.Sheet.{headSize, mostBound, stepWidth}
 use Rattle.sheet.specs.Encoding.{encodeSteps, encodeEntry, encode}
 
@@ -21,29 +22,34 @@ stepsFrom labels tests i (suc k) = step (getD labels i 0) (getD tests i 0) ∷ s
 abbrev pub stepsGiven : List ℕ → List ℕ → ℕ → List Step
 stepsGiven labels tests k = stepsFrom labels tests 0 k
 
--- The labels and tests of `count` steps are given, and the steps have room at `at`.
-pub record StepsFit (room : List ℕ) (at : ℕ) (labels tests : List ℕ) (count : ℕ) : Type 0 where
+-- The labels and tests of `count` steps are given, each label has room in its bytes, and the steps have room at `at`.
+pub record StepsFit (v : ℕ) (room : List ℕ) (at : ℕ) (labels tests : List ℕ) (count : ℕ) : Type 0 where
   pub labelled : count ≤ length labels
   pub tested : count ≤ length tests
-  pub inside : at + stepWidth onlyVersion * count ≤ length room
+  pub narrow : (i : ℕ) → i < count → getD labels i 0 < 256 ^ labelWidth v
+  pub inside : at + stepWidth v * count ≤ length room
 
 -- The same for two ways, one behind the other, each of at most 4 steps.
-pub record WaysFit (room : List ℕ) (at : ℕ) (labels tests : List ℕ) (count : ℕ) (labels′ tests′ : List ℕ) (count′ : ℕ) : Type 0 where
+pub record WaysFit (v : ℕ) (room : List ℕ) (at : ℕ) (labels tests : List ℕ) (count : ℕ) (labels′ tests′ : List ℕ) (count′ : ℕ) : Type 0 where
   pub short : count ≤ mostBound
   pub short′ : count′ ≤ mostBound
-  pub first : StepsFit room at labels tests count
-  pub second : StepsFit room (at + stepWidth onlyVersion * count) labels′ tests′ count′
+  pub first : StepsFit v room at labels tests count
+  pub second : StepsFit v room (at + stepWidth v * count) labels′ tests′ count′
 
 -- The entry e was put into the room at `at`, and nothing else changed; `next` is the byte after it.
-abbrev pub PutEntry : List ℕ → ℕ → Entry → List ℕ → ℕ → Type 0
-PutEntry room at e = PutBytes room at (encodeEntry e)
+abbrev pub PutEntry : ℕ → List ℕ → ℕ → Entry → List ℕ → ℕ → Type 0
+PutEntry v room at e = PutBytes room at (encodeEntry v e)
+
+-- So in a sheet of any version, for an entry without steps.
+pub record PutPlain (room : List ℕ) (at : ℕ) (e : Entry) (exit : List ℕ) (next : ℕ) : Type 0 where
+  pub any : (v : ℕ) → PutEntry v room at e exit next
 
 -- The same of the steps of two ways.
-abbrev pub PutWays : List ℕ → ℕ → List Step → List Step → List ℕ → ℕ → Type 0
-PutWays room at s s′ = PutBytes room at (encodeSteps s ++ encodeSteps s′)
+abbrev pub PutWays : ℕ → List ℕ → ℕ → List Step → List Step → List ℕ → ℕ → Type 0
+PutWays v room at s s′ = PutBytes room at (encodeSteps v s ++ encodeSteps v s′)
 
 -- The room holds the bytes of the entries es behind a header; the next entry goes to `at`.
-pub record Holding (room : List ℕ) (es : List Entry) (at : ℕ) : Type 0 where
-  pub place : at ≡ headSize + length (encode es)
+pub record Holding (v : ℕ) (room : List ℕ) (es : List Entry) (at : ℕ) : Type 0 where
+  pub place : at ≡ headSize + length (encode v es)
   pub inside : at ≤ length room
-  pub bytes : take (length (encode es)) (drop headSize room) ≡ encode es
+  pub bytes : take (length (encode v es)) (drop headSize room) ≡ encode v es

@@ -12,12 +12,12 @@ use Rattle.sheet.specs.WrittenLaws.{sizeOf, length-encodeEntry, encode-snoc, le
 use Rattle.sheet_writer.specs.Writing.{PutEntry, Holding}
 
 -- an entry's bytes, by its size
-module _ {room exit : List ℕ} {at next : ℕ} (e : Entry) where
-  pub put-entry : exit ≡ sets room at (encodeEntry e) → next ≡ at + sizeOf e → PutEntry room at e exit next
-  put-entry p q = record { left = p; end = rw (length-encodeEntry e) q }
+module _ {room exit : List ℕ} {at next : ℕ} (v : ℕ) (e : Entry) where
+  pub put-entry : exit ≡ sets room at (encodeEntry v e) → next ≡ at + sizeOf v e → PutEntry v room at e exit next
+  put-entry p q = record { left = p; end = rw (length-encodeEntry v e) q }
 
-  pub entry-end : PutEntry room at e exit next → next ≡ at + sizeOf e
-  entry-end w = rw (length-encodeEntry e) at (w .end)
+  pub entry-end : PutEntry v room at e exit next → next ≡ at + sizeOf v e
+  entry-end w = rw (length-encodeEntry v e) at (w .end)
 
 -- ---- a run of bytes written
 
@@ -59,50 +59,50 @@ module _ {A : Type 0} where
 -- ---- the room, entry by entry
 
 -- no entry yet
-pub holding-none : (room : List ℕ) → headSize ≤ length room → Holding room [] headSize
+pub holding-none : (v : ℕ) (room : List ℕ) → headSize ≤ length room → Holding v room [] headSize
 unfolding encode
-holding-none room h = record { place = refl; inside = h; bytes = refl }
+holding-none v room h = record { place = refl; inside = h; bytes = refl }
 
-module _ {room : List ℕ} {es : List Entry} {at : ℕ} (h : Holding room es at) where
-  module _ (e : Entry) {exit : List ℕ} {next : ℕ} (w : PutEntry room at e exit next) (fits : at + sizeOf e ≤ length room) where
-    sized : at + length (encodeEntry e) ≤ length room
-    sized = omega (arith, length-encodeEntry e)
+module _ {v : ℕ} {room : List ℕ} {es : List Entry} {at : ℕ} (h : Holding v room es at) where
+  module _ (e : Entry) {exit : List ℕ} {next : ℕ} (w : PutEntry v room at e exit next) (fits : at + sizeOf v e ≤ length room) where
+    sized : at + length (encodeEntry v e) ≤ length room
+    sized = omega (arith, length-encodeEntry v e)
 
     -- one entry more
-    pub holding-next : Holding exit (es ++ (e ∷ [])) next
+    pub holding-next : Holding v exit (es ++ (e ∷ [])) next
     holding-next =
         record {
-          place = omega (arith, w .end, h .place, ap length (encode-snoc es e), length-append (encode es) (encodeEntry e));
-          inside = omega (arith, entry-end e w, ap length (w .left), length-sets room at (encodeEntry e));
+          place = omega (arith, w .end, h .place, ap length (encode-snoc v es e), length-append (encode v es) (encodeEntry v e));
+          inside = omega (arith, entry-end v e w, ap length (w .left), length-sets room at (encodeEntry v e));
           bytes =
-              rw (encode-snoc es e, length-append (encode es) (encodeEntry e), w .left)
-              (take-drop-sets room at (encodeEntry e) sized headSize (length (encode es)) (sym (h .place)) ∙ ap (λ l. l ++ encodeEntry e) (h .bytes));
+              rw (encode-snoc v es e, length-append (encode v es) (encodeEntry v e), w .left)
+              (take-drop-sets room at (encodeEntry v e) sized headSize (length (encode v es)) (sym (h .place)) ∙ ap (λ l. l ++ encodeEntry v e) (h .bytes));
         }
 
     -- the bytes after it stay
     pub kept-after : (n : ℕ) → next ≤ n → drop n exit ≡ drop n room
-    kept-after n k = rw (w .left) (drop-sets room at (encodeEntry e) sized n (omega (arith, w .end)))
+    kept-after n k = rw (w .left) (drop-sets room at (encodeEntry v e) sized n (omega (arith, w .end)))
 
   -- the header last: the room starts with the sheet, and the bytes after it stay
-  module _ (c : ℕ) {exit : List ℕ} (w : exit ≡ sets room 0 (header at c (length es))) where
-    headed : exit ≡ header at c (length es) ++ drop headSize room
+  module _ (c : ℕ) {exit : List ℕ} (w : exit ≡ sets room 0 (header v at c (length es))) where
+    headed : exit ≡ header v at c (length es) ++ drop headSize room
     headed =
-        let H = header at c (length es) in
-        w ∙ sets-eq H room 0 (omega (arith, h .place, h .inside, length-header at c (length es)))
-        ∙ ap (λ n. H ++ drop n room) (let e : 0 + length H ≡ headSize = omega (arith, length-header at c (length es)) in e)
+        let H = header v at c (length es) in
+        w ∙ sets-eq H room 0 (omega (arith, h .place, h .inside, length-header v at c (length es)))
+        ∙ ap (λ n. H ++ drop n room) (let e : 0 + length H ≡ headSize = omega (arith, length-header v at c (length es)) in e)
 
-    pub holding-sheet : take at exit ≡ sheetBytes c es
+    pub holding-sheet : take at exit ≡ sheetBytes v c es
     unfolding sheetBytes
     holding-sheet =
-        let H = header at c (length es) in
+        let H = header v at c (length es) in
         rw headed
-        (ap (λ n. take n (H ++ drop headSize room)) (let e : at ≡ length H + length (encode es) = omega (arith, h .place, length-header at c (length es)) in e)
-        ∙ take-append-add H (drop headSize room) (length (encode es)) ∙ ap₂ _++_ (ap (λ n. header n c (length es)) (h .place)) (h .bytes))
+        (ap (λ n. take n (H ++ drop headSize room)) (let e : at ≡ length H + length (encode v es) = omega (arith, h .place, length-header v at c (length es)) in e)
+        ∙ take-append-add H (drop headSize room) (length (encode v es)) ∙ ap₂ _++_ (ap (λ n. header v n c (length es)) (h .place)) (h .bytes))
 
     pub sheet-kept-after : (n : ℕ) → headSize ≤ n → drop n exit ≡ drop n room
     sheet-kept-after n k =
-        let H = header at c (length es) in
+        let H = header v at c (length es) in
         rw headed
-        (ap (λ n. drop n (H ++ drop headSize room)) (let e : n ≡ length H + (n - headSize) = omega (arith, length-header at c (length es)) in e)
+        (ap (λ n. drop n (H ++ drop headSize room)) (let e : n ≡ length H + (n - headSize) = omega (arith, length-header v at c (length es)) in e)
         ∙ drop-append-add H (drop headSize room) (n - headSize) ∙ drop-drop (n - headSize) headSize room
         ∙ ap (λ m. drop m room) (let e : headSize + (n - headSize) ≡ n = omega arith in e))

@@ -58,8 +58,11 @@ digits-two n h l = sym (ap length (decimal-two n h l))
 pub digits-three : (n : ℕ) → 100 ≤ n → n < 1000 → 3 ≡ length (decimal n)
 digits-three n h l = omega (arith, length-decimal-hundreds n h, digits-one (n / 100) (omega arith))
 
-pub digits-more : (n r : ℕ) → 100 ≤ n → n < 2 ^ 64 → r ≡ length (decimal (n / 100)) → (r + 2 ≡ length (decimal n)) × (r + 2 ≤ mostDigits)
-digits-more n r h l d = let e = length-decimal-hundreds n h in (omega arith, omega (arith, decimal-few n l))
+pub digits-four : (n : ℕ) → 1000 ≤ n → n < 10000 → 4 ≡ length (decimal n)
+digits-four n h l = omega (arith, length-decimal-hundreds n (omega arith), digits-two (n / 100) (omega arith) (omega arith))
+
+pub digits-five : (n : ℕ) → 10000 ≤ n → n < 65536 → 5 ≡ length (decimal n)
+digits-five n h l = omega (arith, length-decimal-hundreds n (omega arith), digits-three (n / 100) (omega arith) (omega arith))
 
 pub two-put : (room mid exit : List ℕ) (at n to next : ℕ) → PutBytes room at ((48 + n / 10) ∷ []) mid to → PutBytes mid to ((48 + n % 10) ∷ []) exit next
     → PutBytes room at (digit (n / 10) ∷ digit (n % 10) ∷ []) exit next

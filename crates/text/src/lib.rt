@@ -15,9 +15,9 @@ pub fn put_byte(room: &mut [u8], at: usize, byte: u8) -> usize
     at + 1
 }
 
-// How many digits a number has in base ten: at most 20.
-pub fn digits(n: u64) -> u64
-    ensures { λ r. ⌜ (r ≡ length (decimal n)) × (r ≤ mostDigits) ⌝ }
+// How many digits a 16-bit number has in base ten: at most 5.
+pub fn digits(n: u16) -> u64
+    ensures { λ r. ⌜ (r ≡ length (decimal n)) × (r ≤ 5) ⌝ }
 {
     if n < 10 {
         return 1;
@@ -28,7 +28,10 @@ pub fn digits(n: u64) -> u64
     if n < 1000 {
         return 3;
     }
-    digits(n / 100) + 2
+    if n < 10000 {
+        return 4;
+    }
+    5
 }
 
 // Writes the two digits of a number below 100 at `at`, and gives the place after them.

@@ -2,6 +2,7 @@
 use Prim.Native.Nat.{_-_, _≤_}
 use borrow.Author.Needs.{needs}
 use native.Mathlib.Omega.{arith}
+use Rattle.book.specs.AcceptedLaws.{start-long}
 use Rattle.book.proofs.Laws.{Lower, lower-none, start-room, first-end, first-stop, first-next}
 use Rattle.book.proofs.first_by_counts.Statement.{statement}
 use Rattle.book.proofs.first_by_counts.Tie as tie
@@ -16,7 +17,7 @@ loop-holds : tie.Need-loop-holds Inv-loop μ-loop
 loop-holds c = (search lower-none, omega arith)
 
 link-start-requires : tie.Need-link-start-requires Inv-loop μ-loop
-link-start-requires c κs = (omega arith, omega arith)
+link-start-requires c κs = (search start-long, omega arith, omega arith)
 
 get1-requires : tie.Need-get1-requires Inv-loop μ-loop
 get1-requires c κs = search start-room

@@ -1,6 +1,6 @@
 -- `book::head_refusal` meets its contract.
 use borrow.Author.Needs.{needs}
-use Rattle.book.proofs.Laws.{head-short, head-whole, head-version, head-counts}
+use Rattle.book.proofs.Laws.{head-short, head-whole, head-unversioned, head-newer, head-counts}
 use Rattle.book.proofs.head_refusal.Statement.{statement}
 use Rattle.book.proofs.head_refusal.Tie as tie
 
@@ -16,17 +16,20 @@ cast-l c = search needs
 returns-2 : tie.Need-returns-2
 returns-2 c = search head-whole
 
-get1-requires : tie.Need-get1-requires
-get1-requires c κs = search needs
+version-of-requires : tie.Need-version-of-requires
+version-of-requires c κs = search needs
 
 returns-3 : tie.Need-returns-3
-returns-3 c = search head-version
+returns-3 c = search head-unversioned
+
+returns-4 : tie.Need-returns-4
+returns-4 c = search head-newer
 
 counts-refusal-requires : tie.Need-counts-refusal-requires
 counts-refusal-requires c κs = search needs
 
-returns-4 : tie.Need-returns-4
-returns-4 c = search head-counts
+returns-5 : tie.Need-returns-5
+returns-5 c = search head-counts
 
 pub head-refusal-spec : {M : Type 1} → statement M
 head-refusal-spec =
@@ -36,7 +39,8 @@ head-refusal-spec =
     get4-requires
     cast-l
     returns-2
-    get1-requires
+    version-of-requires
     returns-3
+    returns-4
     counts-refusal-requires
-    returns-4)
+    returns-5)

@@ -1,7 +1,7 @@
 -- `book::links` meets its contract.
 use borrow.Author.Needs.{needs}
 use native.Mathlib.Omega.{arith}
-use Rattle.book.proofs.Laws.{product-fits, part-end, part-bytes, part-book, part-cell}
+use Rattle.book.proofs.Laws.{links-size, part-long, part-end, part-bytes, part-book, part-cell}
 use Rattle.book.proofs.links.Statement.{statement}
 use Rattle.book.proofs.links.Tie as tie
 
@@ -11,11 +11,8 @@ links-answer-requires c κs = search needs
 enum-known-answer : tie.Need-enum-known-answer
 enum-known-answer c = search needs
 
-label-width-requires : tie.Need-label-width-requires
-label-width-requires c κs = search needs
-
-add-width : tie.Need-add-width
-add-width c = search needs
+link-width-requires : tie.Need-link-width-requires
+link-width-requires c κs = search part-long
 
 cast-from : tie.Need-cast-from
 cast-from c = search needs
@@ -24,10 +21,10 @@ cast-end : tie.Need-cast-end
 cast-end c = search needs
 
 mul-end : tie.Need-mul-end
-mul-end c = omega (arith, product-fits (c .label-width .result) (c .before .before .answer .given .0 .0) (omega arith) (search needs))
+mul-end c = omega (arith, links-size (c .link-width .result) (c .before .before .answer .given .0 .0) (omega arith))
 
 add-end : tie.Need-add-end
-add-end c = omega (arith, product-fits (c .label-width .result) (c .before .before .answer .given .0 .0) (omega arith) (search needs))
+add-end c = omega (arith, links-size (c .link-width .result) (c .before .before .answer .given .0 .0) (omega arith))
 
 sub-result : tie.Need-sub-result
 sub-result c = search needs
@@ -65,8 +62,7 @@ links-spec =
     (tie.spec
     links-answer-requires
     enum-known-answer
-    label-width-requires
-    add-width
+    link-width-requires
     cast-from
     cast-end
     mul-end

@@ -7,14 +7,17 @@ use Rattle.book.proofs.read_link.Tie as tie
 link-place-requires : tie.Need-link-place-requires
 link-place-requires c κs = (search head-long, search head-few)
 
+version-of-requires : tie.Need-version-of-requires
+version-of-requires c κs = search head-long
+
 get1-requires : tie.Need-get1-requires
 get1-requires c κs = search from-room
 
-add-label-at : tie.Need-add-label-at
-add-label-at c = search needs
+add-get-label : tie.Need-add-get-label
+add-get-label c = search needs
 
-label-at-requires : tie.Need-label-at-requires
-label-at-requires c κs = search label-room
+get-label-requires : tie.Need-get-label-requires
+get-label-requires c κs = search label-room
 
 label-width-requires : tie.Need-label-width-requires
 label-width-requires c κs = search needs
@@ -36,9 +39,10 @@ read-link-spec =
     tie.close
     (tie.spec
     link-place-requires
+    version-of-requires
     get1-requires
-    add-label-at
-    label-at-requires
+    add-get-label
+    get-label-requires
     label-width-requires
     add-get1
     add-get1-2

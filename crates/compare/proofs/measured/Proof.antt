@@ -17,6 +17,9 @@ mul-pairs c = record { fits = search pairs-fit }
 returns : tie.Need-returns
 returns c = search map-length
 
+sheet-version-requires : tie.Need-sheet-version-requires
+sheet-version-requires c κs = (search book-long, search book-long)
+
 room-needed-requires : tie.Need-room-needed-requires
 room-needed-requires c κs = search pairs-few
 
@@ -31,10 +34,10 @@ returns-3 c = search few-scratch
 
 served-requires : tie.Need-served-requires
 served-requires c κs =
-    let given = c .before .before .before .before .before .before .before .before .before .before .before .before .before .before .pre in
-    let n = c .before .before .before .before .before .before .before .before .cells-of .ensures .0 in
-    let m = c .before .before .before .before .before .before .before .cells-of2 .ensures .0 in
-    (all-lent _ _ _ _ n m (given .0) (given .1) _ _ _ _ (c .before .before .before .before .before .room-needed .ensures) (given .2) (c .before .before .before .before .before .before .if1 .left) (c .before .before .before .before .if2 .left), scratch-lent _ _ _ _ n m _ (c .before .before .before .if3 .left))
+    let given = c .before .before .before .before .before .before .before .before .before .before .before .before .before .before .before .pre in
+    let n = c .before .before .before .before .before .before .before .before .before .cells-of .ensures .0 in
+    let m = c .before .before .before .before .before .before .before .before .cells-of2 .ensures .0 in
+    (all-lent _ _ _ _ n m (given .0) (given .1) _ _ _ _ _ (c .before .before .before .before .before .before .sheet-version .ensures) (c .before .before .before .before .before .room-needed .ensures) (given .2) (c .before .before .before .before .before .before .before .if1 .left) (c .before .before .before .before .if2 .left), scratch-lent _ _ _ _ n m _ (c .before .before .before .if3 .left))
 
 same-length : tie.Need-same-length
 same-length c = search needs
@@ -56,6 +59,7 @@ measured-spec =
     cells-of-requires-2
     mul-pairs
     returns
+    sheet-version-requires
     room-needed-requires
     returns-2
     mul-if3

@@ -12,8 +12,8 @@ put-reason-requires c κs = search needs
 put-not-requires : tie.Need-put-not-requires
 put-not-requires c κs = search denial-fits
 
-add-t16 : tie.Need-add-t16
-add-t16 c = search needs
+add-t17 : tie.Need-add-t17
+add-t17 c = search needs
 
 same-length : tie.Need-same-length
 same-length c = search needs
@@ -23,4 +23,4 @@ returns c = search denied
 
 pub put-denied-spec : {M : Type 1} → statement M
 put-denied-spec =
-    tie.close (tie.spec put-reason-requires put-not-requires add-t16 same-length returns)
+    tie.close (tie.spec put-reason-requires put-not-requires add-t17 same-length returns)

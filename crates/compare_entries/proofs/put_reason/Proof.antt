@@ -1,11 +1,11 @@
 -- `compare_entries::put_reason` meets its contract.
 use borrow.Author.Needs.{needs}
-use Rattle.compare_entries.proofs.Parting.{way-short, way-fits, put-link, pair-passable, pair-kind, pair-most, ways-fit, put-pair}
+use Rattle.compare_entries.proofs.Parting.{first-numbered, way-short, way-fits, put-link, second-numbered, pair-kind, pair-most, ways-fit, put-pair}
 use Rattle.compare_entries.proofs.put_reason.Statement.{statement}
 use Rattle.compare_entries.proofs.put_reason.Tie as tie
 
 way-along-requires : tie.Need-way-along-requires
-way-along-requires c κs = search needs
+way-along-requires c κs = (search first-numbered, search needs)
 
 slice-aggregate-put-way : tie.Need-slice-aggregate-put-way
 slice-aggregate-put-way c = search needs
@@ -23,7 +23,7 @@ returns : tie.Need-returns
 returns c = search put-link
 
 way-along-requires-2 : tie.Need-way-along-requires-2
-way-along-requires-2 c κs = search pair-passable
+way-along-requires-2 c κs = (search second-numbered, search needs)
 
 slice-aggregate-put-comparison : tie.Need-slice-aggregate-put-comparison
 slice-aggregate-put-comparison c = search needs

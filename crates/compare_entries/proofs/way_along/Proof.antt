@@ -3,7 +3,7 @@ use Prim.Native.Nat.{_-_, _≤_}
 use native.Mathlib.Omega.{arith}
 use borrow.Author.Needs.{needs}
 use Rattle.compare_entries.specs.Growing.{sideOf}
-use Rattle.compare_entries.proofs.Parting.{Filled, filled-none, filled-more, filled-all, link-below, label-below, number-below, number-narrow, number-fits, number-scaled}
+use Rattle.compare_entries.proofs.Parting.{Filled, filled-none, filled-more, filled-all, link-below, number-below, number-narrow, number-fits, number-scaled}
 use Rattle.compare_entries.proofs.way_along.Statement.{statement}
 use Rattle.compare_entries.proofs.way_along.Tie as tie
 
@@ -34,8 +34,8 @@ add-x c = search number-narrow
 label-requires : tie.Need-label-requires Inv-loop μ-loop
 label-requires c κs = search link-below
 
-cast-names : tie.Need-cast-names Inv-loop μ-loop
-cast-names c = search label-below
+mul-names : tie.Need-mul-names Inv-loop μ-loop
+mul-names c = search needs
 
 array-write-names : tie.Need-array-write-names Inv-loop μ-loop
 array-write-names c = omega arith
@@ -80,7 +80,7 @@ way-along-spec =
     target-requires
     add-x
     label-requires
-    cast-names
+    mul-names
     array-write-names
     cast-tests
     mul-tests

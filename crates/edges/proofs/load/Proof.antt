@@ -24,9 +24,6 @@ link-of-requires c κs = search needs
 element-write-from : tie.Need-element-write-from Inv-loop μ-loop
 element-write-from c = omega arith
 
-cast-labels : tie.Need-cast-labels Inv-loop μ-loop
-cast-labels c = search needs
-
 mul-labels : tie.Need-mul-labels Inv-loop μ-loop
 mul-labels c = omega arith
 
@@ -58,7 +55,6 @@ load-spec =
     loop-holds
     link-of-requires
     element-write-from
-    cast-labels
     mul-labels
     element-write-labels
     element-write-to

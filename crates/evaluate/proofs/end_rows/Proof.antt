@@ -32,9 +32,6 @@ sub-left c = omega arith
 label-requires : tie.Need-label-requires Inv-loop μ-loop
 label-requires c κs = search (has-step, needs)
 
-cast-label : tie.Need-cast-label Inv-loop μ-loop
-cast-label c = search needs
-
 tested-word-requires : tie.Need-tested-word-requires Inv-loop μ-loop
 tested-word-requires c κs = search needs
 
@@ -60,7 +57,6 @@ end-rows-spec =
     loop-holds
     sub-left
     label-requires
-    cast-label
     tested-word-requires
     gather-requires
     loop-less

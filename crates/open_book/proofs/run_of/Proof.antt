@@ -1,5 +1,6 @@
 -- `open_book::run_of` meets its contract.
 use borrow.Author.Needs.{needs}
+use Rattle.book.specs.AcceptedLaws.{start-long}
 use Rattle.open_book.proofs.Exits.{run-rises, run-ends, run-bytes}
 use Rattle.open_book.proofs.run_of.Statement.{statement}
 use Rattle.open_book.proofs.run_of.Tie as tie
@@ -14,10 +15,10 @@ first-by-counts-requires-2 : tie.Need-first-by-counts-requires-2
 first-by-counts-requires-2 c κs = search needs
 
 link-start-requires : tie.Need-link-start-requires
-link-start-requires c κs = search needs
+link-start-requires c κs = (search start-long, search needs, search needs)
 
 link-start-requires-2 : tie.Need-link-start-requires-2
-link-start-requires-2 c κs = search needs
+link-start-requires-2 c κs = (search start-long, search needs, search needs)
 
 sub-result : tie.Need-sub-result
 sub-result c = search run-rises

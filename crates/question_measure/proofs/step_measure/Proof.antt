@@ -8,9 +8,6 @@ use Rattle.question_measure.proofs.step_measure.Tie as tie
 label-requires : tie.Need-label-requires
 label-requires c κs = search has-step
 
-cast-label : tie.Need-cast-label
-cast-label c = search needs
-
 test-requires : tie.Need-test-requires
 test-requires c κs = search has-step
 
@@ -37,7 +34,6 @@ step-measure-spec =
     tie.close
     (tie.spec
     label-requires
-    cast-label
     test-requires
     cast-k
     digits-requires

@@ -10,7 +10,7 @@ use lib.ListN.{length}
 use Rattle.question_text.specs.Writing.{WayOf, stepsTextOf}
 use Rattle.question_text.proofs.Entries.{number-below, number-started, number-falls}
 use Rattle.question_text.proofs.Questions.{earlier-started, between-first, between-text, between-last, between-put, question-listed, question-entered, question-readable, true-first, true-last, true-put, not-number, not-first, not-part, not-put, two-first, two-second, two-opens, two-other, two-closes, two-put}
-use Rattle.question_text.proofs.Ways.{first-way-of, second-way-of, exists-way, exists-opens, exists-part, exists-closes, exists-put, compared-first, compared-second, compared-opens, compared-part, compared-other, compared-put, second-sign, second-part, second-closes, second-put, dot-fits, dot-put, steps-fit, steps-put, Going, going-start, going-end, one-way, others-way, going-fits, going-next, step-has, test-earlier, step-label, step-test, step-put}
+use Rattle.question_text.proofs.Ways.{first-way-of, second-way-of, exists-way, exists-opens, exists-part, exists-closes, exists-put, compared-first, compared-second, compared-opens, compared-part, compared-other, compared-put, second-sign, second-part, second-closes, second-put, dot-fits, dot-put, steps-fit, steps-put, run, Going, going-start, going-end, one-way, others-way, going-fits, going-next, step-has, test-earlier, step-label, step-test, step-put}
 use Rattle.question_text.proofs.put_between.Reads as put-between
 use Rattle.question_text.proofs.put_between.Kinds as put-between-kinds
 use Rattle.question_text.proofs.+put_between+put_comparison+put_exists+put_not+put_question+put_second+put_step+put_steps+put_two+put_way.Lts-put_between as put-between-lts
@@ -52,6 +52,7 @@ use Rattle.question_text.proofs.tested.Reads as tested-reads
 use Rattle.sheet.proofs.first_way.Reads as first-way-reads
 use Rattle.sheet.proofs.kind.Reads as kind-reads
 use Rattle.sheet.proofs.second_way.Reads as second-way-reads
+use Rattle.sheet.proofs.steps_size.Reads as steps-size-reads
 use Rattle.text.proofs.put_byte.Reads as put-byte-reads
 use Rattle.question_text.proofs.+put_between+put_comparison+put_exists+put_not+put_question+put_second+put_step+put_steps+put_two+put_way.{
   statement,
@@ -178,7 +179,7 @@ abbrev put-between-calls : ℕ → put-between-lts.Claims
 put-between-calls t = (put-byte-reads.Asked, put-byte-reads.Learnt, put-question-below t, put-question.Post)
 
 abbrev put-comparison-calls : ℕ → put-comparison-lts.Claims
-put-comparison-calls t = (first-way-reads.Asked, first-way-reads.Learnt, second-way-reads.Asked, second-way-reads.Learnt, put-byte-reads.Asked, put-byte-reads.Learnt, put-way-below t, put-way.Post, put-second-below t, put-second.Post)
+put-comparison-calls t = (first-way-reads.Asked, first-way-reads.Learnt, put-byte-reads.Asked, put-byte-reads.Learnt, put-way-below t, put-way.Post, put-second-below t, put-second.Post)
 
 abbrev put-exists-calls : ℕ → put-exists-lts.Claims
 put-exists-calls t = (first-way-reads.Asked, first-way-reads.Learnt, put-byte-reads.Asked, put-byte-reads.Learnt, put-way-below t, put-way.Post)
@@ -190,13 +191,13 @@ abbrev put-question-calls : ℕ → put-question-lts.Claims
 put-question-calls t = (start-of-reads.Asked, start-of-reads.Learnt, kind-reads.Asked, kind-reads.Learnt, put-both-reads.Asked, put-both-reads.Learnt, put-byte-reads.Asked, put-byte-reads.Learnt, put-not-below t, put-not.Post, put-two-below t, put-two.Post, put-exists-below t, put-exists.Post, put-comparison-below t, put-comparison.Post)
 
 abbrev put-second-calls : ℕ → put-second-lts.Claims
-put-second-calls t = (put-sign-reads.Asked, put-sign-reads.Learnt, put-way-below t, put-way.Post, put-byte-reads.Asked, put-byte-reads.Learnt)
+put-second-calls t = (second-way-reads.Asked, second-way-reads.Learnt, put-sign-reads.Asked, put-sign-reads.Learnt, put-way-below t, put-way.Post, put-byte-reads.Asked, put-byte-reads.Learnt)
 
 abbrev put-step-calls : ℕ → put-step-lts.Claims
 put-step-calls t = (labelled-reads.Asked, labelled-reads.Learnt, put-label-reads.Asked, put-label-reads.Learnt, tested-reads.Asked, tested-reads.Learnt, put-between-below t, put-between.Post)
 
 abbrev put-steps-calls : ℕ → put-steps-lts.Claims
-put-steps-calls t = (put-step-below t, put-step.Post)
+put-steps-calls t = (put-step-below t, put-step.Post, steps-size-reads.Asked, steps-size-reads.Learnt)
 
 abbrev put-two-calls : ℕ → put-two-lts.Claims
 put-two-calls t = (part-reads.Asked, part-reads.Learnt, junction-reads.Asked, junction-reads.Learnt, put-between-below t, put-between.Post, put-question-below t, put-question.Post, put-byte-reads.Asked, put-byte-reads.Learnt)
@@ -222,9 +223,6 @@ put-between-returns t c = search between-put
 put-comparison-first-way-requires : (t : ℕ) → put-comparison-lts.Need-first-way-requires (put-comparison-calls t) (put-comparison-at t) put-comparison.Post
 put-comparison-first-way-requires t c κs = search compared-first
 
-put-comparison-second-way-requires : (t : ℕ) → put-comparison-lts.Need-second-way-requires (put-comparison-calls t) (put-comparison-at t) put-comparison.Post
-put-comparison-second-way-requires t c κs = search compared-second
-
 put-comparison-put-byte-requires : (t : ℕ) → put-comparison-lts.Need-put-byte-requires (put-comparison-calls t) (put-comparison-at t) put-comparison.Post
 put-comparison-put-byte-requires t c κs = search compared-opens
 
@@ -232,7 +230,7 @@ put-comparison-put-way-requires : (t : ℕ) → put-comparison-lts.Need-put-way-
 put-comparison-put-way-requires t c κs = (omega arith, (search first-way-of, search compared-part))
 
 put-comparison-put-second-requires : (t : ℕ) → put-comparison-lts.Need-put-second-requires (put-comparison-calls t) (put-comparison-at t) put-comparison.Post
-put-comparison-put-second-requires t c κs = (omega arith, (search second-way-of, search compared-other))
+put-comparison-put-second-requires t c κs = (omega arith, (search needs, search needs, search needs, search compared-other))
 
 put-comparison-same-length : (t : ℕ) → put-comparison-lts.Need-same-length (put-comparison-calls t) (put-comparison-at t) put-comparison.Post
 put-comparison-same-length t c = search needs
@@ -327,11 +325,14 @@ put-question-same-length-5 t c = search needs
 put-question-returns-5 : (t : ℕ) → put-question-lts.Need-returns-5 (put-question-calls t) (put-question-at t) put-question.Post
 put-question-returns-5 t c = search needs
 
+put-second-second-way-requires : (t : ℕ) → put-second-lts.Need-second-way-requires (put-second-calls t) (put-second-at t) put-second.Post
+put-second-second-way-requires t c κs = search compared-second
+
 put-second-put-sign-requires : (t : ℕ) → put-second-lts.Need-put-sign-requires (put-second-calls t) (put-second-at t) put-second.Post
 put-second-put-sign-requires t c κs = search second-sign
 
 put-second-put-way-requires : (t : ℕ) → put-second-lts.Need-put-way-requires (put-second-calls t) (put-second-at t) put-second.Post
-put-second-put-way-requires t c κs = (omega arith, (search needs, search second-part))
+put-second-put-way-requires t c κs = (omega arith, (search second-way-of, search second-part))
 
 put-second-put-byte-requires : (t : ℕ) → put-second-lts.Need-put-byte-requires (put-second-calls t) (put-second-at t) put-second.Post
 put-second-put-byte-requires t c κs = search second-closes
@@ -361,68 +362,36 @@ put-step-returns : (t : ℕ) → put-step-lts.Need-returns (put-step-calls t) (p
 put-step-returns t c = search step-put
 
 abbrev put-steps-Inv-loop : put-steps-lts.InvT-loop
-put-steps-Inv-loop sheet starts k room₀ at from₀ next₀ left₀ room from next left = Going sheet room₀ at (stepsTextOf sheet (record { start = from₀; count = left₀ })) room next (record { start = from; count = left }) × WayOf sheet starts k (record { start = from; count = left }) × (length room ≡ length room₀) × (at + length (stepsTextOf sheet (record { start = from₀; count = left₀ })) ≤ length room₀)
+put-steps-Inv-loop sheet starts k room₀ at version from₀ next₀ left₀ room from next left = Going sheet room₀ at (stepsTextOf sheet (run version from₀ left₀)) room next (run version from left) × WayOf sheet starts k (run version from left) × (length room ≡ length room₀) × (at + length (stepsTextOf sheet (run version from₀ left₀)) ≤ length room₀)
 
 abbrev put-steps-μ-loop : put-steps-lts.MeasureT-loop
-put-steps-μ-loop sheet starts k room₀ at from₀ next₀ left₀ room from next left = left
+put-steps-μ-loop sheet starts k room₀ at version from₀ next₀ left₀ room from next left = left
 
-put-steps-loop-holds : (t : ℕ) → put-steps-lts.Need-loop-holds
-    (put-step-below t, put-step.Post)
-    (put-steps-at t)
-    put-steps.Post
-    put-steps-Inv-loop
-    put-steps-μ-loop
+put-steps-loop-holds : (t : ℕ) → put-steps-lts.Need-loop-holds (put-steps-calls t) (put-steps-at t) put-steps.Post put-steps-Inv-loop put-steps-μ-loop
 put-steps-loop-holds t c = (search going-start, search needs, refl, search needs)
 
 put-steps-put-step-requires : (t : ℕ) → put-steps-lts.Need-put-step-requires (put-steps-calls t) (put-steps-at t) put-steps.Post put-steps-Inv-loop put-steps-μ-loop
 put-steps-put-step-requires t c κs = (omega arith, (search one-way, refl, search going-fits))
 
-put-steps-add-from : (t : ℕ) → put-steps-lts.Need-add-from
-    (put-step-below t, put-step.Post)
-    (put-steps-at t)
-    put-steps.Post
-    put-steps-Inv-loop
-    put-steps-μ-loop
+put-steps-steps-size-requires : (t : ℕ) → put-steps-lts.Need-steps-size-requires (put-steps-calls t) (put-steps-at t) put-steps.Post put-steps-Inv-loop put-steps-μ-loop
+put-steps-steps-size-requires t c κs = search needs
+
+put-steps-add-from : (t : ℕ) → put-steps-lts.Need-add-from (put-steps-calls t) (put-steps-at t) put-steps.Post put-steps-Inv-loop put-steps-μ-loop
 put-steps-add-from t c = search needs
 
-put-steps-sub-left : (t : ℕ) → put-steps-lts.Need-sub-left
-    (put-step-below t, put-step.Post)
-    (put-steps-at t)
-    put-steps.Post
-    put-steps-Inv-loop
-    put-steps-μ-loop
+put-steps-sub-left : (t : ℕ) → put-steps-lts.Need-sub-left (put-steps-calls t) (put-steps-at t) put-steps.Post put-steps-Inv-loop put-steps-μ-loop
 put-steps-sub-left t c = search needs
 
-put-steps-loop-less : (t : ℕ) → put-steps-lts.Need-loop-less
-    (put-step-below t, put-step.Post)
-    (put-steps-at t)
-    put-steps.Post
-    put-steps-Inv-loop
-    put-steps-μ-loop
+put-steps-loop-less : (t : ℕ) → put-steps-lts.Need-loop-less (put-steps-calls t) (put-steps-at t) put-steps.Post put-steps-Inv-loop put-steps-μ-loop
 put-steps-loop-less t c = omega arith
 
-put-steps-loop-again : (t : ℕ) → put-steps-lts.Need-loop-again
-    (put-step-below t, put-step.Post)
-    (put-steps-at t)
-    put-steps.Post
-    put-steps-Inv-loop
-    put-steps-μ-loop
+put-steps-loop-again : (t : ℕ) → put-steps-lts.Need-loop-again (put-steps-calls t) (put-steps-at t) put-steps.Post put-steps-Inv-loop put-steps-μ-loop
 put-steps-loop-again t c = (search going-next, search others-way, search needs, search needs)
 
-put-steps-same-length : (t : ℕ) → put-steps-lts.Need-same-length
-    (put-step-below t, put-step.Post)
-    (put-steps-at t)
-    put-steps.Post
-    put-steps-Inv-loop
-    put-steps-μ-loop
+put-steps-same-length : (t : ℕ) → put-steps-lts.Need-same-length (put-steps-calls t) (put-steps-at t) put-steps.Post put-steps-Inv-loop put-steps-μ-loop
 put-steps-same-length t c = search needs
 
-put-steps-returns : (t : ℕ) → put-steps-lts.Need-returns
-    (put-step-below t, put-step.Post)
-    (put-steps-at t)
-    put-steps.Post
-    put-steps-Inv-loop
-    put-steps-μ-loop
+put-steps-returns : (t : ℕ) → put-steps-lts.Need-returns (put-steps-calls t) (put-steps-at t) put-steps.Post put-steps-Inv-loop put-steps-μ-loop
 put-steps-returns t c = search going-end
 
 put-two-part-requires : (t : ℕ) → put-two-lts.Need-part-requires (put-two-calls t) (put-two-at t) put-two.Post
@@ -491,7 +460,6 @@ pub +put-between+put-comparison+put-exists+put-not+put-question+put-second+put-s
     (λ t. put-comparison-lts.spec (put-comparison-calls t) (put-comparison-at t)
     put-comparison.Post
     (put-comparison-first-way-requires t)
-    (put-comparison-second-way-requires t)
     (put-comparison-put-byte-requires t)
     (put-comparison-put-way-requires t)
     (put-comparison-put-second-requires t)
@@ -534,6 +502,7 @@ pub +put-between+put-comparison+put-exists+put-not+put-question+put-second+put-s
     (put-question-returns-5 t))
     (λ t. put-second-lts.spec (put-second-calls t) (put-second-at t)
     put-second.Post
+    (put-second-second-way-requires t)
     (put-second-put-sign-requires t)
     (put-second-put-way-requires t)
     (put-second-put-byte-requires t)
@@ -548,13 +517,14 @@ pub +put-between+put-comparison+put-exists+put-not+put-question+put-second+put-s
     (put-step-same-length t)
     (put-step-returns t))
     (λ t. put-steps-lts.spec
-    (put-step-below t, put-step.Post)
+    (put-steps-calls t)
     (put-steps-at t)
     put-steps.Post
     put-steps-Inv-loop
     put-steps-μ-loop
     (put-steps-loop-holds t)
     (put-steps-put-step-requires t)
+    (put-steps-steps-size-requires t)
     (put-steps-add-from t)
     (put-steps-sub-left t)
     (put-steps-loop-less t)

@@ -31,8 +31,8 @@ wide-requires-2 c κs = search needs
 add-count : tie.Need-add-count
 add-count c = search needs
 
-mul-if4 : tie.Need-mul-if4
-mul-if4 c = search needs
+steps-size-requires : tie.Need-steps-size-requires
+steps-size-requires c κs = search needs
 
 add-if4 : tie.Need-add-if4
 add-if4 c = search needs
@@ -62,7 +62,7 @@ comparison-refusal-spec =
     wide-requires
     wide-requires-2
     add-count
-    mul-if4
+    steps-size-requires
     add-if4
     returns-4
     add-tests-refusal

@@ -5,19 +5,22 @@ use native.Mathlib.Omega.{arith}
 use borrow.Author.Needs.{needs}
 use lib.ListN.{length}
 use Rattle.sheet.specs.ReadingLaws.{readable-passed}
-use Rattle.sheet.specs.Sheet.{entriesRefusal, headSize}
+use Rattle.sheet.specs.Sheet.{versionOf, entriesRefusal, headSize}
 use Rattle.sheet.proofs.Laws.{entries-start, entries-over, entries-good, entries-stop, entries-next, entries-inside}
 use Rattle.sheet.proofs.entries_refusal.Statement.{statement}
 use Rattle.sheet.proofs.entries_refusal.Tie as tie
 
 abbrev Inv-loop : tie.InvT-loop
-Inv-loop s c q at₀ n₀ at n = (entriesRefusal s c 0 headSize q ≡ entriesRefusal s c n at (q - n)) × (n ≤ q) × (at ≤ length s)
+Inv-loop s c q v at₀ n₀ at n = (entriesRefusal (versionOf s) s c 0 headSize q ≡ entriesRefusal (versionOf s) s c n at (q - n)) × (n ≤ q) × (at ≤ length s)
 
 abbrev μ-loop : tie.MeasureT-loop
-μ-loop s c q at₀ n₀ at n = q - n
+μ-loop s c q v at₀ n₀ at n = q - n
+
+shared-slice-read-v : tie.Need-shared-slice-read-v Inv-loop μ-loop
+shared-slice-read-v c = search needs
 
 loop-holds : tie.Need-loop-holds Inv-loop μ-loop
-loop-holds c = (entries-start _ _ _, omega arith, search needs)
+loop-holds c = (entries-start _ _ _ _, omega arith, search needs)
 
 entry-refusal-requires : tie.Need-entry-refusal-requires Inv-loop μ-loop
 entry-refusal-requires c κs = search needs
@@ -49,6 +52,7 @@ entries-refusal-spec =
     (tie.spec
     Inv-loop
     μ-loop
+    shared-slice-read-v
     loop-holds
     entry-refusal-requires
     returns

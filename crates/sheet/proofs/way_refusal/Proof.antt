@@ -16,8 +16,8 @@ wide-requires c κs = search needs
 returns-2 : tie.Need-returns-2
 returns-2 c = search way-large
 
-mul-if3 : tie.Need-mul-if3
-mul-if3 c = search needs
+steps-size-requires : tie.Need-steps-size-requires
+steps-size-requires c κs = search needs
 
 add-if3 : tie.Need-add-if3
 add-if3 c = search needs
@@ -42,7 +42,7 @@ way-refusal-spec =
     shared-slice-read-wide
     wide-requires
     returns-2
-    mul-if3
+    steps-size-requires
     add-if3
     returns-3
     add-tests-refusal

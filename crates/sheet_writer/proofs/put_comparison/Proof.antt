@@ -1,6 +1,6 @@
 -- `sheet_writer::put_comparison` meets its contract: its head and step counts, then its steps.
 use borrow.Author.Needs.{needs}
-use Rattle.sheet_writer.proofs.Laws.{comparison-written}
+use Rattle.sheet_writer.proofs.Laws.{ways-kept, comparison-written}
 use Rattle.sheet_writer.proofs.put_comparison.Statement.{statement}
 use Rattle.sheet_writer.proofs.put_comparison.Tie as tie
 
@@ -11,7 +11,7 @@ add-put-ways : tie.Need-add-put-ways
 add-put-ways c = search needs
 
 put-ways-requires : tie.Need-put-ways-requires
-put-ways-requires c κs = search needs
+put-ways-requires c κs = search ways-kept
 
 same-length : tie.Need-same-length
 same-length c = search needs

@@ -1,14 +1,17 @@
 -- `sheet_writer::put_way` meets its contract: its head, its step count, then its steps.
-use borrow.Author.Needs.{needs}
 use Rattle.sheet_writer.proofs.Laws.{way-written}
+use borrow.Author.Needs.{needs}
 use Rattle.sheet_writer.proofs.put_way.Statement.{statement}
 use Rattle.sheet_writer.proofs.put_way.Tie as tie
 
-mul-put-pair : tie.Need-mul-put-pair
-mul-put-pair c = search needs
+steps-size-requires : tie.Need-steps-size-requires
+steps-size-requires c κs = search needs
 
 add-put-pair : tie.Need-add-put-pair
 add-put-pair c = search needs
+
+cast-put-pair : tie.Need-cast-put-pair
+cast-put-pair c = search needs
 
 put-pair-requires : tie.Need-put-pair-requires
 put-pair-requires c κs = search needs
@@ -35,8 +38,9 @@ pub put-way-spec : {M : Type 1} → statement M
 put-way-spec =
     tie.close
     (tie.spec
-    mul-put-pair
+    steps-size-requires
     add-put-pair
+    cast-put-pair
     put-pair-requires
     add-put1
     put1-requires
