@@ -1,12 +1,13 @@
-//! A call of Compare, timed, and the lists that are lent to it.
+//! A call of Compare or its one-way form, timed, and the lists that are lent to it.
 
 use crate::clock::running;
 use crate::support::library::needed;
 use crate::support::outcome::Outcome;
+use crate::support::sides::Sides;
 use std::hint::black_box;
 use std::time::Duration;
 
-pub type Compare = fn(&[u8], &[u8], usize, &mut [u16], &mut [u8], &mut [u8]) -> Outcome;
+pub type Compare = fn(Sides, &[u8], &[u8], usize, &mut [u16], &mut [u8], &mut [u8]) -> Outcome;
 
 /// What is lent: a map, room and scratch.
 #[derive(PartialEq, Hash)]
@@ -31,6 +32,7 @@ impl Lists {
 /// The answer and the time of one call. All three lists are filled with ones before, outside of the time.
 pub fn timed(
     compare: Compare,
+    sides: Sides,
     left: &[u8],
     right: &[u8],
     bound: usize,
@@ -40,7 +42,8 @@ pub fn timed(
     lists.room.fill(u8::MAX);
     lists.scratch.fill(u8::MAX);
     let Lists { map, room, scratch } = black_box(lists);
+    let (left, right) = (black_box(left), black_box(right));
     let start = running();
-    let answer = compare(black_box(left), black_box(right), bound, map, room, scratch);
+    let answer = compare(sides, left, right, bound, map, room, scratch);
     (answer, running() - start)
 }

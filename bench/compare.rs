@@ -1,5 +1,5 @@
-//! Compare on families of books at bounds 1 to 4: the library beside plain Rust of the same method on books of version 1, and the library on
-//! the same books written in version 2, in one run.
+//! Compare and its one-way form on families of books at bounds 1 to 4: the library beside plain Rust of the same method on books of version
+//! 1, and the library on the same books written in version 2, in one run. `compare one-way` and `compare two-sided` time one of them.
 
 mod calls;
 mod clock;
@@ -11,9 +11,11 @@ mod support;
 
 use calls::{timed, Compare, Lists};
 use families::{changed, hard, ordinary, Family};
+use std::env;
 use std::time::Duration;
 use support::library;
 use support::outcome::{accepted, Outcome};
+use support::sides::{Sides, FORMS};
 use support::versions::VERSIONS;
 
 /// The library's tables have so many places, and so have the plain version's.
@@ -84,12 +86,20 @@ fn main() {
     println!(
         "best of {LEAST} to {MOST} calls each, by turns, or of {LEAST_LONG} above a second; times on the processor in ms; map, room and scratch are filled with ones before each call"
     );
+    match env::args().nth(1) {
+        None => FORMS.into_iter().for_each(tables),
+        Some(name) => tables(Sides::of_name(&name).expect("two-sided or one-way")),
+    }
+}
+
+/// Prints the tables of one form.
+fn tables(sides: Sides) {
     println!(
         "{:<60}{:>6}{:>6}{:>9}{:>8}{:>8}{:>12}{:>12}{:>8}{:>12}{:>8}",
-        "books",
+        format!("{}, books", sides.operation()),
         "cells",
         "bound",
-        "matched",
+        sides.stays(),
         "parted",
         "bytes",
         "library",
@@ -98,17 +108,17 @@ fn main() {
         "version 2",
         "ratio"
     );
-    table("ordinary books", &ordinary(), ORDINARY_RATIO);
-    table("hard books", &hard(), RATIO);
-    table("changed books", &changed(), RATIO);
+    table(sides, "ordinary books", &ordinary(), ORDINARY_RATIO);
+    table(sides, "hard books", &hard(), RATIO);
+    table(sides, "changed books", &changed(), RATIO);
 }
 
 /// Prints the rows of these families, and what was seen.
-fn table(name: &str, families: &[Family], most: f64) {
+fn table(sides: Sides, name: &str, families: &[Family], most: f64) {
     let mut seen = Seen::default();
     for family in families {
         for bound in 1..=4 {
-            let row = measure(family, bound);
+            let row = measure(sides, family, bound);
             let (slow, above) = (row.library > SLOW, row.ratio() > most);
             seen.rows += 1;
             seen.slow += slow as usize;
@@ -136,7 +146,8 @@ fn table(name: &str, families: &[Family], most: f64) {
         }
     }
     println!(
-        "{name}: of {} times {} are above 2 s and {} above 0.3 s; {} ratios are above {most}; {}",
+        "{}, {name}: of {} times {} are above 2 s and {} above 0.3 s; {} ratios are above {most}; {}",
+        sides.operation(),
         seen.rows,
         seen.slow,
         seen.slowish,
@@ -178,10 +189,10 @@ impl Row {
     }
 
     fn text(&self) -> String {
-        let matched = self.answer.second as usize;
+        let stay = self.answer.second as usize;
         format!(
-            "{matched:>9}{:>8}{:>8}{:>12.3}{:>12.3}{:>8.2}{:>12.3}{:>8.3}",
-            self.pairs - matched,
+            "{stay:>9}{:>8}{:>8}{:>12.3}{:>12.3}{:>8.2}{:>12.3}{:>8.3}",
+            self.pairs - stay,
             self.answer.first,
             self.library.as_secs_f64() * 1e3,
             self.plain.as_secs_f64() * 1e3,
@@ -193,7 +204,7 @@ impl Row {
 }
 
 /// Calls the three by turns; each time library and plain version give the same map and sheet, and the library the same map in version 2.
-fn measure(family: &Family, bound: usize) -> Row {
+fn measure(sides: Sides, family: &Family, bound: usize) -> Row {
     let [narrow, wide] =
         VERSIONS.map(|version| [&family.left, &family.right].map(|book| book.bytes(version)));
     let pairs = family.left.cells() * family.right.cells();
@@ -210,7 +221,7 @@ fn measure(family: &Family, bound: usize) -> Row {
     let mut all = Duration::ZERO;
     let plain = plain_compare::compare::<PLACES>;
     let call = |compare: Compare, [left, right]: &[Vec<u8>; 2], lists: &mut Lists| {
-        timed(compare, left, right, bound, lists)
+        timed(compare, sides, left, right, bound, lists)
     };
     while row.calls < row.least() || all < MEASURED && row.calls < MOST {
         let (of_library, time) = call(library::compare, &narrow, &mut by_library);

@@ -1,6 +1,6 @@
 //! The books that Compare is timed on, the same in every run.
 
-use crate::support::books::{chain, link, random_book, ring, Book};
+use crate::support::books::{chain, link, marked_ring, random_book, ring, Book};
 use crate::support::random::Random;
 use crate::support::remade::{damaged, renumbered, split};
 
@@ -143,6 +143,29 @@ pub fn hard() -> Vec<Family> {
         });
     }
     families.extend(dense(random));
+    families.extend(many_rounds(random));
+    families
+}
+
+/// Books that take many rounds one-way, in each of which many pairs stay.
+fn many_rounds(random: &mut Random) -> Vec<Family> {
+    // At bounds 0 and 1 a round parts one pair, and the next the pair before it: 31 × 32 rounds.
+    let mut families = vec![Family {
+        name: "rings of 31 and 32, one cell marked, and all but one".to_string(),
+        left: marked_ring(31, |x| x == 0),
+        right: marked_ring(32, |x| x != 0),
+    }];
+    for (cells, labels) in [(8, 56), (32, 15), (48, 10)] {
+        let mut book = deterministic(random, vec![5; cells], labels);
+        book.recordings.resize(64, 5);
+        let chained = (cells as u8..63).map(|x| link(x, labels, x + 1));
+        book.links.extend(chained);
+        let name = format!(
+            "{cells} cells by {labels} labels, a chain of {}",
+            64 - cells
+        );
+        families.push(Family::renumbered(name, random, book));
+    }
     families
 }
 

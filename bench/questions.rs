@@ -4,6 +4,7 @@ use crate::support::books::{chain, random_book, Book};
 use crate::support::library::{self, needed};
 use crate::support::random::Random;
 use crate::support::sheets::{random_sheet, step, Entry, Sheet, Step};
+use crate::support::sides::Sides;
 use crate::support::versions::versions_of;
 use std::ops::Range;
 
@@ -155,6 +156,7 @@ fn of_compare(name: &str, book: &Book, bytes: Range<usize>) -> Asked {
     let (map, room, scratch) = needed(book.cells() * book.cells(), 1);
     let mut room = vec![0; room];
     let answer = library::compare(
+        Sides::Two,
         &book.bytes(1),
         &book.bytes(1),
         2,

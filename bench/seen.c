@@ -60,14 +60,19 @@ uint64_t __wrap_cuhnavel_claim(BYTES(left), BYTES(right), BYTES(sheet), size_t e
     return answer;
 }
 
-uint64_t __real_cuhnavel_compare(BYTES(left), BYTES(right), size_t bound, uint16_t *map, size_t map_len, uint8_t *room, size_t room_len, uint8_t *scratch, size_t scratch_len);
-uint64_t __wrap_cuhnavel_compare(BYTES(left), BYTES(right), size_t bound, uint16_t *map, size_t map_len, uint8_t *room, size_t room_len, uint8_t *scratch, size_t scratch_len) {
-    uint64_t answer = seen(__real_cuhnavel_compare(left, left_len, right, right_len, bound, map, map_len, room, room_len, scratch, scratch_len));
-    add_list(map, 2 * map_len);
-    add_list(room, room_len);
-    add_list(scratch, scratch_len);
-    return answer;
-}
+/* A form of Compare. */
+#define COMPARE(name)                                                                                                                                                                                                                          \
+    uint64_t __real_##name(BYTES(left), BYTES(right), size_t bound, uint16_t *map, size_t map_len, uint8_t *room, size_t room_len, uint8_t *scratch, size_t scratch_len);                                                                      \
+    uint64_t __wrap_##name(BYTES(left), BYTES(right), size_t bound, uint16_t *map, size_t map_len, uint8_t *room, size_t room_len, uint8_t *scratch, size_t scratch_len) {                                                                     \
+        uint64_t answer = seen(__real_##name(left, left_len, right, right_len, bound, map, map_len, room, room_len, scratch, scratch_len));                                                                                                    \
+        add_list(map, 2 * map_len);                                                                                                                                                                                                            \
+        add_list(room, room_len);                                                                                                                                                                                                              \
+        add_list(scratch, scratch_len);                                                                                                                                                                                                        \
+        return answer;                                                                                                                                                                                                                         \
+    }
+
+COMPARE(cuhnavel_compare)
+COMPARE(cuhnavel_compare_one_way)
 
 uint64_t __real_cuhnavel_question_text(BYTES(sheet), size_t entry, uint8_t *room, size_t room_len);
 uint64_t __wrap_cuhnavel_question_text(BYTES(sheet), size_t entry, uint8_t *room, size_t room_len) {

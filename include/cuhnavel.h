@@ -94,6 +94,20 @@ uint64_t cuhnavel_compare(const uint8_t *left, size_t left_len, const uint8_t *r
                           uint16_t *map, size_t map_len, uint8_t *room, size_t room_len, uint8_t *scratch,
                           size_t scratch_len);
 
+/* Compare one-way: which cells of the right book offer all that a cell of the left one does, and perhaps more. It is as cuhnavel_compare
+ * but for:
+ *   map      Place i x m + j becomes 0 where left cell i is covered by right cell j, that is where every question without "not" within
+ *            the bound that is true at left cell i is true at right cell j; else it becomes the number of an entry of the sheet whose
+ *            question has no "not", is true at left cell i and false at right cell j.
+ *   room     No entry of the sheet is a "not".
+ * Cells that are matched cover each other; cells that cover each other need not be matched. Here, too, which question is taken is fixed.
+ * Accepted: first is the sheet's length in bytes, second the number of covered pairs.
+ * Refused: as cuhnavel_compare.
+ */
+uint64_t cuhnavel_compare_one_way(const uint8_t *left, size_t left_len, const uint8_t *right, size_t right_len, size_t bound,
+                                  uint16_t *map, size_t map_len, uint8_t *room, size_t room_len, uint8_t *scratch,
+                                  size_t scratch_len);
+
 /* Truth: where the questions of a sheet are true in a book. Accepted: with q the sheet's number of entries and n the book's
  * number of cells, word k (0 to q - 1) has bit i (value 2^i) exactly when entry k is true at cell i; bits from n up are 0;
  * words from q on are as they were. Both values are 0. The book and the sheet may be of different versions.
@@ -121,7 +135,7 @@ uint64_t cuhnavel_claim(const uint8_t *left, size_t left_len, const uint8_t *rig
                         size_t sheet_len, size_t entry, size_t left_cell, size_t right_cell, uint64_t *words,
                         size_t words_len);
 
-/* Row: the right cells that left cell i is matched with, in a map of rows of m places. Accepted: first is how many they are.
+/* Row: the right cells that left cell i is matched with or, one-way, covered by, in a map of rows of m places. Accepted: first is how many they are.
  * Refused, part CUHNAVEL_CALL:
  *   27 m is 0 or above 64
  *   26 places i x m to i x m + m - 1 are not all in the map
@@ -132,7 +146,7 @@ uint64_t cuhnavel_row(const uint16_t *map, size_t map_len, size_t m, size_t i);
 uint64_t cuhnavel_row_word(const uint16_t *map, size_t map_len, size_t m, size_t i);
 
 /* Pair: the question of a sheet that parts the pair at a place of a map. Accepted: first is its number, second the byte of the
- * sheet where its entry starts; both are 0 where the pair is matched.
+ * sheet where its entry starts; both are 0 where the pair is matched or, one-way, covered.
  * Refused:
  *   the sheet's refusal, as cuhnavel_check_sheet
  * then, part CUHNAVEL_CALL:

@@ -1,4 +1,5 @@
-/* A C caller of Compare: prints each answer taken apart, but for the sheet's length and which entries the map names, which examples/compare.c prints. */
+/* A C caller of Compare and its one-way form: prints each answer taken apart, but for the sheet's length and which entries the map names, which
+   examples/compare.c prints. */
 #include <inttypes.h>
 #include <stdio.h>
 #include <string.h>
@@ -15,6 +16,15 @@ static uint16_t map[PAIRS + 1];
 static uint8_t room[ROOM_2 + 1];
 static uint8_t scratch[SCRATCH + 1];
 
+/* The two forms, and what a pair is called that no question parts. */
+static const struct form {
+    const char *name, *stays;
+    uint64_t (*compare)(const uint8_t *, size_t, const uint8_t *, size_t, size_t, uint16_t *, size_t, uint8_t *, size_t, uint8_t *, size_t);
+} forms[] = {
+    {"compare", "matched", cuhnavel_compare},
+    {"compare one-way", "covered", cuhnavel_compare_one_way},
+};
+
 static void refused(const char *name, uint64_t answer)
 {
     printf("%s: refusal %" PRIu32 " part %" PRIu32 "\n", name, CUHNAVEL_REFUSAL(answer), CUHNAVEL_PART(answer));
@@ -30,18 +40,19 @@ static size_t count(const uint8_t *bytes, size_t len, uint8_t value)
 }
 
 /* Compares the left book, in one of its versions, with as much room as this takes. */
-static void compare(const uint8_t *one, size_t one_len, size_t room_len, size_t bound)
+static void compare(const struct form *form, const uint8_t *one, size_t one_len, size_t room_len, size_t bound)
 {
     memset(map, 0xff, sizeof map);
     memset(room, 0xff, sizeof room);
     memset(scratch, 0xff, sizeof scratch);
-    uint64_t answer = cuhnavel_compare(one, one_len, right, sizeof right, bound, map, PAIRS, room, room_len, scratch, SCRATCH);
+    uint64_t answer = form->compare(one, one_len, right, sizeof right, bound, map, PAIRS, room, room_len, scratch, SCRATCH);
     size_t length = CUHNAVEL_FIRST(answer);
     uint64_t check = cuhnavel_check_sheet(room, length);
 
-    printf("left of version %u, bound %zu: refusal %" PRIu32 ", matched %" PRIu32 "; sheet of version %u, its check: refusal %" PRIu32
+    printf("left of version %u, bound %zu: refusal %" PRIu32 ", %s %" PRIu32 "; sheet of version %u, its check: refusal %" PRIu32
            ", bound %" PRIu32 "\n",
-           one[4], bound, CUHNAVEL_REFUSAL(answer), CUHNAVEL_SECOND(answer), room[4], CUHNAVEL_REFUSAL(check), CUHNAVEL_SECOND(check));
+           one[4], bound, CUHNAVEL_REFUSAL(answer), form->stays, CUHNAVEL_SECOND(answer), room[4], CUHNAVEL_REFUSAL(check),
+           CUHNAVEL_SECOND(check));
     for (size_t i = 0; i < 3; i++)
         printf("row %zu: count %" PRIu32 " word %" PRIu64 "\n", i, CUHNAVEL_FIRST(cuhnavel_row(map, PAIRS, 2, i)),
                cuhnavel_row_word(map, PAIRS, 2, i));
@@ -58,27 +69,35 @@ static void compare(const uint8_t *one, size_t one_len, size_t room_len, size_t 
            room[room_len], scratch[SCRATCH]);
 }
 
-int main(void)
+/* What a form declines. */
+static void refusals(const struct form *form)
 {
     uint8_t other[sizeof left];
 
-    for (size_t bound = 0; bound <= 1; bound++) {
-        compare(left, sizeof left, ROOM, bound);
-        compare(left_2, sizeof left_2, ROOM_2, bound);
-    }
-
     memset(room, 0xff, sizeof room);
-    refused("bound 5", cuhnavel_compare(left, sizeof left, right, sizeof right, 5, map, PAIRS, room, ROOM, scratch, SCRATCH));
-    refused("bound 256", cuhnavel_compare(left, sizeof left, right, sizeof right, 256, map, PAIRS, room, ROOM, scratch, SCRATCH));
+    refused("bound 5", form->compare(left, sizeof left, right, sizeof right, 5, map, PAIRS, room, ROOM, scratch, SCRATCH));
+    refused("bound 256", form->compare(left, sizeof left, right, sizeof right, 256, map, PAIRS, room, ROOM, scratch, SCRATCH));
     memcpy(other, left, sizeof left);
     other[4] = 3;
-    refused("left of version 3", cuhnavel_compare(other, sizeof left, right, 7, 1, map, PAIRS, room, ROOM, scratch, SCRATCH));
-    refused("right of 7 bytes", cuhnavel_compare(left, sizeof left, right, 7, 1, map, 5, room, ROOM, scratch, SCRATCH));
-    refused("map of 7", cuhnavel_compare(left, sizeof left, right, sizeof right, 1, map, 7, room, 273, scratch, SCRATCH));
-    refused("room of 273", cuhnavel_compare(left, sizeof left, right, sizeof right, 1, map, PAIRS, room, 273, scratch, 95));
-    refused("scratch of 95", cuhnavel_compare(left, sizeof left, right, sizeof right, 1, map, PAIRS, room, 274, scratch, 95));
-    refused("left of version 2, room of 321", cuhnavel_compare(left_2, sizeof left_2, right, sizeof right, 1, map, PAIRS, room, 321, scratch, 95));
-    refused("left of version 2, scratch of 95", cuhnavel_compare(left_2, sizeof left_2, right, sizeof right, 1, map, PAIRS, room, 322, scratch, 95));
+    refused("left of version 3", form->compare(other, sizeof left, right, 7, 1, map, PAIRS, room, ROOM, scratch, SCRATCH));
+    refused("right of 7 bytes", form->compare(left, sizeof left, right, 7, 1, map, 5, room, ROOM, scratch, SCRATCH));
+    refused("map of 7", form->compare(left, sizeof left, right, sizeof right, 1, map, 7, room, 273, scratch, SCRATCH));
+    refused("room of 273", form->compare(left, sizeof left, right, sizeof right, 1, map, PAIRS, room, 273, scratch, 95));
+    refused("scratch of 95", form->compare(left, sizeof left, right, sizeof right, 1, map, PAIRS, room, 274, scratch, 95));
+    refused("left of version 2, room of 321", form->compare(left_2, sizeof left_2, right, sizeof right, 1, map, PAIRS, room, 321, scratch, 95));
+    refused("left of version 2, scratch of 95", form->compare(left_2, sizeof left_2, right, sizeof right, 1, map, PAIRS, room, 322, scratch, 95));
     printf("room as it was: %s\n", count(room, sizeof room, 0xff) == sizeof room ? "yes" : "no");
+}
+
+int main(void)
+{
+    for (const struct form *form = forms; form < forms + sizeof forms / sizeof forms[0]; form++) {
+        printf("%s\n", form->name);
+        for (size_t bound = 0; bound <= 1; bound++) {
+            compare(form, left, sizeof left, ROOM, bound);
+            compare(form, left_2, sizeof left_2, ROOM_2, bound);
+        }
+        refusals(form);
+    }
     return 0;
 }

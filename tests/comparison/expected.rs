@@ -1,13 +1,16 @@
-//! When Compare declines, written from document 01, "The operations and when they decline", and document 02, request 2026-02.
+//! When Compare declines, written from document 01, "The operations and when they decline", and document 02, requests 2026-02 and 2026-03:
+//! "limits .. are those of Compare" one-way.
 
 use crate::support::checks::check_book;
 use crate::support::library::needed;
 use crate::support::outcome::{refused, Outcome, CALL, LEFT_BOOK, RIGHT_BOOK};
+use crate::support::sides::Sides;
 use crate::support::versions::written_version;
 
-/// What Compare is asked, and how much is lent.
+/// What Compare or its one-way form is asked, and how much is lent.
 #[derive(Clone, Copy)]
 pub struct Asked<'a> {
+    pub sides: Sides,
     pub left: &'a [u8],
     pub right: &'a [u8],
     pub bound: usize,

@@ -1,23 +1,25 @@
 //! Books that are compared.
 
 use crate::expected::{refusal, Asked};
+use crate::seen::TENS;
 use crate::support::books::{
-    book, chain, example_a_left, example_a_right, link, random_book, Book,
+    book, chain, example_a_left, example_a_right, link, marked_ring, random_book, Book,
 };
 use crate::support::library::needed;
 use crate::support::partners::most_ways;
 use crate::support::random::Random;
-use crate::support::remade::{any_labels, damaged, renumbered, split};
+use crate::support::remade::{any_labels, damaged, grown, renumbered, split};
 use crate::support::shapes::{draw, OTHERS, SHAPES};
+use crate::support::sides::{Sides, FORMS};
 use crate::support::versions::{written_version, MIXES};
-use crate::tally::{Tally, TENS};
+use crate::tally::Tally;
 
 /// The most ways from a cell of a book of 10 to 20 cells, and of a dense one.
 const MOST_WAYS: usize = 200;
 const DENSE_WAYS: usize = 3_200;
 
 /// How many pairs of books of each shape at each bound.
-const DRAWN: usize = 400;
+const DRAWN: usize = 320;
 
 /// How many pairs of books of 10 to 20 cells at each bound.
 const MIDDLING: usize = 40;
@@ -28,22 +30,28 @@ const SOME_CLAIMS: usize = 40;
 pub fn all(tally: &mut Tally) {
     let random = &mut Random::new(5);
     examples(tally);
+    examples_one_way(tally);
+    room_of_example_a(tally);
     by_hand(tally);
+    not_matched(tally);
+    rings(tally);
     by_shape(tally, random);
     same_book(tally, random);
+    offering_more(tally, random);
     sizes(tally, random);
     middling(tally, random);
     crowded(tally, random);
     large(tally, random);
-    dense(tally, random);
+    dense(tally, &mut Random::new(2)); // of some seeds one with many full tables
     many_values(tally, random);
 }
 
 /// Exactly what two books need.
-fn exactly<'a>(left: &'a [u8], right: &'a [u8], bound: usize) -> Asked<'a> {
+fn exactly<'a>(sides: Sides, left: &'a [u8], right: &'a [u8], bound: usize) -> Asked<'a> {
     let pairs = left[5] as usize * right[5] as usize;
     let (map, room, scratch) = needed(pairs, written_version(left[4], right[4]));
     Asked {
+        sides,
         left,
         right,
         bound,
@@ -53,7 +61,24 @@ fn exactly<'a>(left: &'a [u8], right: &'a [u8], bound: usize) -> Asked<'a> {
     }
 }
 
-/// Compares two books, of any versions, with as much room and scratch as they need, or some more.
+/// Compares two books, of any versions, with as much room and scratch as they need, or some more. Gives the map.
+fn ask_in(
+    tally: &mut Tally,
+    random: &mut Random,
+    sides: Sides,
+    [left, right]: [&Book; 2],
+    bound: usize,
+    shape: usize,
+    claims: usize,
+) -> Vec<u16> {
+    let (left, right) = (left.any_bytes(random), right.any_bytes(random));
+    let mut asked = exactly(sides, &left, &right, bound);
+    asked.room += random.pick(&[0, 0, 1, 7, 100]);
+    asked.scratch += random.pick(&[0, 0, 1, 9, 100]);
+    tally.compare(asked, shape, claims)
+}
+
+/// Compares two books in both forms.
 fn ask(
     tally: &mut Tally,
     random: &mut Random,
@@ -63,11 +88,25 @@ fn ask(
     shape: usize,
     claims: usize,
 ) {
-    let (left, right) = (left.any_bytes(random), right.any_bytes(random));
-    let mut asked = exactly(&left, &right, bound);
-    asked.room += random.pick(&[0, 0, 1, 7, 100]);
-    asked.scratch += random.pick(&[0, 0, 1, 9, 100]);
-    tally.compare(asked, shape, claims);
+    for sides in FORMS {
+        ask_in(tally, random, sides, [left, right], bound, shape, claims);
+    }
+}
+
+/// Compares two small books in both forms, and one-way from right to left too: matched pairs are covered both ways.
+fn ask_both_ways(
+    tally: &mut Tally,
+    random: &mut Random,
+    left: &Book,
+    right: &Book,
+    bound: usize,
+    shape: usize,
+) {
+    let mut ask = |sides, books| ask_in(tally, random, sides, books, bound, shape, usize::MAX);
+    let matched = ask(Sides::Two, [left, right]);
+    let ahead = ask(Sides::One, [left, right]);
+    let back = ask(Sides::One, [right, left]);
+    tally.both_ways(&matched, &ahead, &back, right.cells());
 }
 
 /// Document 01, P1 to P8: the pairs that it calls matched are, and those that it calls parted are not. For example A it names all.
@@ -77,9 +116,11 @@ fn examples(tally: &mut Tally) {
     let single = |recording| book(&[recording], &[]);
     let looping = book(&[5], &[link(0, 1, 0)]);
     let two = |recordings: [u32; 2]| book(&recordings, &[link(0, 1, 1), link(1, 1, 0)]);
+    let mut expect = |left: &Book, right: &Book, bound, matched: &[_], parted: &[_]| {
+        expect(tally, Sides::Two, left, right, bound, matched, parted)
+    };
 
     expect(
-        tally,
         &a,
         &b,
         1,
@@ -87,7 +128,6 @@ fn examples(tally: &mut Tally) {
         &[(0, 0), (0, 1), (1, 0), (2, 0)],
     );
     expect(
-        tally,
         &a,
         &b,
         0,
@@ -95,28 +135,78 @@ fn examples(tally: &mut Tally) {
         &[(0, 1), (1, 0), (2, 0)],
     );
     for bound in 0..=4 {
-        expect(tally, &single(5), &single(9), bound, &[(0, 0)], &[]);
+        expect(&single(5), &single(9), bound, &[(0, 0)], &[]);
     }
-    expect(tally, &three(5), &three(7), 1, &[(0, 0)], &[]);
-    expect(tally, &three(5), &three(7), 2, &[], &[(0, 0)]);
-    expect(tally, &looping, &two([5, 5]), 4, &[(0, 0), (0, 1)], &[]);
-    expect(tally, &looping, &two([5, 6]), 1, &[], &[(0, 0), (0, 1)]);
-    expect(tally, &looping, &two([5, 6]), 0, &[(0, 0), (0, 1)], &[]);
+    expect(&three(5), &three(7), 1, &[(0, 0)], &[]);
+    expect(&three(5), &three(7), 2, &[], &[(0, 0)]);
+    expect(&looping, &two([5, 5]), 4, &[(0, 0), (0, 1)], &[]);
+    expect(&looping, &two([5, 6]), 1, &[], &[(0, 0), (0, 1)]);
+    expect(&looping, &two([5, 6]), 0, &[(0, 0), (0, 1)], &[]);
+}
 
-    // "Room of 273 bytes declines A; 274 serves." If a book is of version 2, 10 + 52 × 6 bytes serve.
+/// The same books one-way. A cell without links is covered by every cell.
+fn examples_one_way(tally: &mut Tally) {
+    let (a, b) = (example_a_left(), example_a_right());
+    let three = |last| chain(vec![5, 6, last], |_| 1);
+    let single = |recording| book(&[recording], &[]);
+    let looping = book(&[5], &[link(0, 1, 0)]);
+    let two = |recordings: [u32; 2]| book(&recordings, &[link(0, 1, 1), link(1, 1, 0)]);
+    let mut expect = |left: &Book, right: &Book, bound, covered: &[_], others: &[_]| {
+        expect(tally, Sides::One, left, right, bound, covered, others)
+    };
+
+    let bare = [(1, 0), (1, 1), (2, 0), (2, 1)];
+    expect(&a, &b, 0, &[&[(0, 0)], &bare[..]].concat(), &[(0, 1)]);
+    for bound in 1..=4 {
+        expect(&a, &b, bound, &bare, &[(0, 0), (0, 1)]);
+        let covered = [(0, 0), (1, 0), (1, 1), (1, 2)];
+        expect(&b, &a, bound, &covered, &[(0, 1), (0, 2)]);
+    }
+    for bound in 0..=4 {
+        expect(&single(5), &single(9), bound, &[(0, 0)], &[]);
+        expect(&single(5), &looping, bound, &[(0, 0)], &[]);
+        expect(&looping, &single(5), bound, &[], &[(0, 0)]);
+    }
+    for (left, right) in [(three(5), three(7)), (three(7), three(5))] {
+        expect(&left, &right, 1, &[(0, 0), (1, 1), (2, 2)], &[(0, 2)]);
+        expect(&left, &right, 2, &[(1, 1), (2, 2)], &[(0, 0), (0, 2)]);
+    }
+    expect(&looping, &two([5, 5]), 4, &[(0, 0), (0, 1)], &[]);
+    expect(&two([5, 5]), &looping, 4, &[(0, 0), (1, 0)], &[]);
+    expect(&looping, &two([5, 6]), 0, &[(0, 0), (0, 1)], &[]);
+    expect(&looping, &two([5, 6]), 1, &[], &[(0, 0), (0, 1)]);
+    expect(&two([5, 6]), &looping, 1, &[], &[(0, 0), (1, 0)]);
+}
+
+/// "Room of 273 bytes declines A; 274 serves." If a book is of version 2, 10 + 52 × 6 bytes serve.
+fn room_of_example_a(tally: &mut Tally) {
+    let (a, b) = (example_a_left(), example_a_right());
     for [one, other] in MIXES {
         let serves = if [one, other] == [1, 1] { 274 } else { 322 };
         let (a, b) = (a.bytes(one), b.bytes(other));
         for room in [serves - 1, serves] {
-            for bound in 0..=4 {
+            for (bound, sides) in (0..=4).flat_map(|bound| FORMS.map(|sides| (bound, sides))) {
                 let asked = Asked {
                     room,
-                    ..exactly(&a, &b, bound)
+                    ..exactly(sides, &a, &b, bound)
                 };
                 assert_eq!(refusal(asked).is_none(), room == serves);
                 tally.compare(asked, OTHERS, usize::MAX);
             }
         }
+    }
+}
+
+/// "Matched pairs are covered both ways; the converse is not claimed": the first cells of these books cover each other, since the left one's
+/// link to a cell without links is answered by every link. But a cell that has no such link does not do the same.
+fn not_matched(tally: &mut Tally) {
+    let left = book(&[5; 4], &[link(0, 1, 1), link(0, 1, 2), link(1, 1, 3)]);
+    let right = chain(vec![5; 3], |_| 1);
+    for bound in 0..=4 {
+        let first = [(0, 0)];
+        expect(tally, Sides::One, &left, &right, bound, &first, &[]);
+        expect(tally, Sides::One, &right, &left, bound, &first, &[]);
+        expect(tally, Sides::Two, &left, &right, bound, &[], &first);
     }
 }
 
@@ -159,6 +249,7 @@ fn by_hand(tally: &mut Tally) {
     ] {
         expect(
             tally,
+            Sides::Two,
             &left,
             &right,
             1,
@@ -167,6 +258,7 @@ fn by_hand(tally: &mut Tally) {
         );
         expect(
             tally,
+            Sides::Two,
             &left,
             &right,
             2,
@@ -176,20 +268,32 @@ fn by_hand(tally: &mut Tally) {
     }
 }
 
-/// In every mix of versions these pairs are matched, and these are parted.
+/// Rings that take as many rounds one-way as there are pairs: all are parted at last.
+fn rings(tally: &mut Tally) {
+    let (left, right) = (marked_ring(7, |x| x == 0), marked_ring(8, |x| x != 0));
+    let all: Vec<_> = (0..7).flat_map(|i| (0..8).map(move |j| (i, j))).collect();
+    for bound in 0..=4 {
+        for sides in FORMS {
+            expect(tally, sides, &left, &right, bound, &[], &all);
+        }
+    }
+}
+
+/// In every mix of versions these pairs stay, and these are parted.
 fn expect(
     tally: &mut Tally,
+    sides: Sides,
     left: &Book,
     right: &Book,
     bound: usize,
-    matched: &[(usize, usize)],
+    stay: &[(usize, usize)],
     parted: &[(usize, usize)],
 ) {
     let m = right.cells();
     for [one, other] in MIXES {
         let (one, other) = (left.bytes(one), right.bytes(other));
-        let map = tally.compare(exactly(&one, &other, bound), OTHERS, usize::MAX);
-        assert!(matched.iter().all(|(i, j)| map[i * m + j] == 0));
+        let map = tally.compare(exactly(sides, &one, &other, bound), OTHERS, usize::MAX);
+        assert!(stay.iter().all(|(i, j)| map[i * m + j] == 0));
         assert!(parted.iter().all(|(i, j)| map[i * m + j] != 0));
     }
 }
@@ -198,9 +302,30 @@ fn expect(
 fn by_shape(tally: &mut Tally, random: &mut Random) {
     for (place, shape) in SHAPES.iter().enumerate() {
         for bound in 0..=4 {
-            for _ in 0..DRAWN {
+            for round in 0..DRAWN {
                 let (left, right) = draw(random, shape, bound);
-                ask(tally, random, &left, &right, bound, place, usize::MAX);
+                let books = [&left, &right];
+                match round % 5 {
+                    0 => ask_both_ways(tally, random, &left, &right, bound, place),
+                    1 => drop(ask_in(
+                        tally,
+                        random,
+                        Sides::One,
+                        books,
+                        bound,
+                        place,
+                        usize::MAX,
+                    )),
+                    _ => drop(ask_in(
+                        tally,
+                        random,
+                        Sides::Two,
+                        books,
+                        bound,
+                        place,
+                        usize::MAX,
+                    )),
+                }
             }
         }
     }
@@ -213,6 +338,21 @@ fn same_book(tally: &mut Tally, random: &mut Random) {
             let shape = &SHAPES[round % SHAPES.len()];
             let (book, _) = draw(random, shape, bound);
             ask(tally, random, &book, &book, bound, OTHERS, usize::MAX);
+        }
+    }
+}
+
+/// A book and one that offers more: each cell is covered by itself.
+fn offering_more(tally: &mut Tally, random: &mut Random) {
+    for bound in 0..=4 {
+        for round in 0..DRAWN / 5 {
+            let shape = &SHAPES[round % SHAPES.len()];
+            let (book, _) = draw(random, shape, bound);
+            let (cells, links) = (random.below(3), random.below(4));
+            let more = grown(random, &book, cells, links);
+            let books = [&book, &more];
+            let map = ask_in(tally, random, Sides::One, books, bound, OTHERS, usize::MAX);
+            assert!((0..book.cells()).all(|x| map[x * more.cells() + x] == 0));
         }
     }
 }
@@ -314,6 +454,8 @@ fn large(tally: &mut Tally, random: &mut Random) {
     ask(random, &long, &other, 4);
     let other = damaged(random, &long);
     ask(random, &long, &other, 1);
+    let alike = chain(vec![5; 40], |_| 1);
+    ask(random, &alike, &alike, 1);
     // 8 links from each cell, by one label each.
     let mut full = random_book(random, 64, 0, 1, 3);
     for from in 0..64 {
@@ -348,7 +490,8 @@ fn dense(tally: &mut Tally, random: &mut Random) {
     }
 }
 
-/// Compares a dense book of so many cells and labels with a renumbered copy, with a damaged one, and with one in which cells are split.
+/// Compares a dense book of so many cells and labels with a renumbered copy, with a damaged one, which is compared one-way too, and with one
+/// in which cells are split.
 fn ask_dense(tally: &mut Tally, random: &mut Random, cells: usize, labels: usize, bound: usize) {
     let out = if bound == 3 { 12 } else { 6 };
     let kinds = random.between(1, 3);
@@ -359,12 +502,25 @@ fn ask_dense(tally: &mut Tally, random: &mut Random, cells: usize, labels: usize
         }
     };
     let [book] = any_labels(random, [book]);
+    let mut ask = |random: &mut Random, sides: Sides, other: &Book| {
+        ask_in(
+            tally,
+            random,
+            sides,
+            [&book, other],
+            bound,
+            TENS,
+            SOME_CLAIMS,
+        );
+    };
     let other = renumbered(random, &book);
-    ask(tally, random, &book, &other, bound, TENS, SOME_CLAIMS);
+    ask(random, Sides::Two, &other);
     let other = damaged(random, &other);
-    ask(tally, random, &book, &other, bound, TENS, SOME_CLAIMS);
+    for sides in FORMS {
+        ask(random, sides, &other);
+    }
     let other = split(random, &book, cells / 4, 20);
-    ask(tally, random, &book, &other, bound, TENS, SOME_CLAIMS);
+    ask(random, Sides::Two, &other);
 }
 
 /// Ways to one cell with more sets of recordings than the tables of the library have places. Of the other book's 13 cells that differ in

@@ -6,8 +6,16 @@ use crate::support::library::needed;
 use crate::support::random::Random;
 use crate::support::refusals::{book_refused, change_byte};
 use crate::support::shapes::OTHERS;
+use crate::support::sides::{Sides, FORMS};
 use crate::support::versions::written_version;
 use crate::tally::Tally;
+
+/// Asks both forms.
+fn ask(tally: &mut Tally, asked: Asked) {
+    for sides in FORMS {
+        tally.compare(Asked { sides, ..asked }, OTHERS, usize::MAX);
+    }
+}
 
 pub fn all(tally: &mut Tally) {
     let random = &mut Random::new(6);
@@ -58,6 +66,7 @@ fn every_order(tally: &mut Tally, random: &mut Random) {
                     _ => random.below(count),
                 };
                 let asked = Asked {
+                    sides: Sides::Two,
                     left: &left,
                     right: &right,
                     bound: if far { beyond(random) } else { random.below(3) },
@@ -75,7 +84,7 @@ fn every_order(tally: &mut Tally, random: &mut Random) {
                         true => below(random, scratch),
                     },
                 };
-                tally.compare(asked, OTHERS, usize::MAX);
+                ask(tally, asked);
             }
         }
     }
@@ -88,6 +97,7 @@ fn lengths(tally: &mut Tally, random: &mut Random) {
         let right = book_refused(random, 0);
         let (map, room, scratch) = needed_by(&left, &right);
         let asked = Asked {
+            sides: Sides::Two,
             left: &left,
             right: &right,
             bound: round % 3,
@@ -95,7 +105,7 @@ fn lengths(tally: &mut Tally, random: &mut Random) {
             room,
             scratch,
         };
-        let mut compare = |asked| tally.compare(asked, OTHERS, usize::MAX);
+        let mut compare = |asked| ask(tally, asked);
         compare(asked);
         for map in [map - 1, map + 1] {
             compare(Asked { map, ..asked });
@@ -128,6 +138,7 @@ fn damaged(tally: &mut Tally, random: &mut Random) {
         }
         let (map, room, scratch) = needed_by(&left, &right);
         let asked = Asked {
+            sides: Sides::Two,
             left: &left,
             right: &right,
             bound: random.below(3),
@@ -135,6 +146,6 @@ fn damaged(tally: &mut Tally, random: &mut Random) {
             room,
             scratch,
         };
-        tally.compare(asked, OTHERS, usize::MAX);
+        ask(tally, asked);
     }
 }

@@ -1,5 +1,5 @@
 //! What parts the pairs: the library, and the plain version of its method with tables of few places, beside the plain search of all
-//! pairs of paths. They have the same matched pairs, and every comparison has the same number of steps in all.
+//! pairs of paths. They leave the same pairs unparted, and every comparison has the same number of steps in all.
 
 use crate::expected::Asked;
 use crate::plain_compare::{self, BY_CELLS, CLASHED, FULL, QUIET, UNKNOWN};
@@ -95,9 +95,10 @@ impl Searches {
     ) {
         let mut map = vec![u16::MAX; asked.map];
         let mut room = vec![0; asked.room];
-        let mut scratch = vec![0; asked.scratch];
+        let mut scratch = vec![1; asked.scratch];
         let before = COUNTS.map(|(_, count)| count.load(Ordering::Relaxed));
         let answer = plain_compare::compare::<N>(
+            asked.sides,
             asked.left,
             asked.right,
             asked.bound,

@@ -1,77 +1,47 @@
 //! Compares the library with the naive comparisons, call by call, checks all that it writes, and counts the answers.
 
 use crate::expected::{refusal, Asked};
-use crate::searches::{Searches, Written};
+use crate::searches::Written;
+use crate::seen::Seen;
 use crate::support::books::Book;
 use crate::support::call::Call;
 use crate::support::checks::check_sheet;
-use crate::support::counts::{Counts, Versions, OF_BOOK};
 use crate::support::described::compared;
 use crate::support::lent::Lent;
 use crate::support::library;
 use crate::support::loops::{partings, Dropped};
-use crate::support::meaning::sheet_cells;
+use crate::support::meaning::{sheet_cells, word, Cells};
 use crate::support::measures::{depths, keeping};
-use crate::support::outcome::{accepted, CALL, LEFT_BOOK, RIGHT_BOOK};
-use crate::support::partners::{most_ways, rounds};
+use crate::support::outcome::{accepted, CALL};
+use crate::support::partners::{most_ways, rounds, union_of_all};
 use crate::support::random::Random;
-use crate::support::shapes::{OTHERS, SHAPES};
 use crate::support::sheets::{Entry, Sheet};
-use std::collections::BTreeMap;
+use crate::support::sides::{Sides, FORMS};
 
-/// The naive comparisons are in reach for so many pairs of cells times pairs of ways.
+/// The naive comparisons are in reach for so many pairs of cells times pairs of ways, and all relations for so many pairs of cells.
 const REACH: usize = 2_000_000;
-
-/// The pairs of one shape at one bound.
-#[derive(Clone, Copy, Default)]
-struct Pairs {
-    cases: usize,
-    matched: usize,
-    parted: usize,
-    /// Of the parted, those that are matched at the bound before.
-    by_bound: usize,
-}
-
-/// The place of books of 10 to 20 cells, after that of all that is of no shape.
-pub const TENS: usize = OTHERS + 1;
+const FEW_PAIRS: usize = 6;
 
 pub struct Tally {
     random: Random,
-    compare: Counts,
-    /// Of the left book and the right one.
-    versions: Versions,
-    claims: usize,
     turn: usize,
-    /// Of each shape, by its place in `SHAPES`, of all others and of `TENS` at the end; by bound.
-    pairs: [[Pairs; 5]; TENS + 1],
-    /// The questions named in a map, by what they are, and by their depth.
-    questions: BTreeMap<&'static str, usize>,
-    depths: BTreeMap<usize, usize>,
-    /// How many are no deeper than the round in which the naive comparison drops the pair.
-    least: usize,
-    searches: Searches,
-    /// In how many cases the naive comparisons were in reach.
-    naive: usize,
+    /// Of each of the `FORMS`.
+    seen: [Seen; 2],
+    /// The pairs that are covered both ways: those that are matched, and others.
+    both_ways: [usize; 2],
 }
 
 impl Tally {
     pub fn new() -> Tally {
         Tally {
             random: Random::new(7),
-            compare: Counts::new("compare"),
-            versions: Versions::default(),
-            claims: 0,
             turn: 0,
-            pairs: Default::default(),
-            questions: BTreeMap::new(),
-            depths: BTreeMap::new(),
-            least: 0,
-            searches: Searches::default(),
-            naive: 0,
+            seen: FORMS.map(Seen::new),
+            both_ways: [0; 2],
         }
     }
 
-    /// The library refuses where document 01 says so, and leaves all as it came; else it gives what document 01 asks. At most
+    /// The library refuses where document 01 says so, and leaves all as it came; else it gives what is asked. At most
     /// `claims` parted pairs are claimed. Gives the map.
     pub fn compare(&mut self, asked: Asked, shape: usize, claims: usize) -> Vec<u16> {
         let around = [0, 1, u64::MAX][self.turn % 3];
@@ -91,6 +61,7 @@ impl Tally {
             false => lent_right.lend(),
         };
         let answer = library::compare(
+            asked.sides,
             left,
             right,
             asked.bound,
@@ -100,7 +71,7 @@ impl Tally {
         );
 
         let call = Call {
-            name: "compare",
+            name: asked.sides.operation(),
             numbers: format!(
                 "case {}, bound {}, map {}, room {}, scratch {}",
                 self.turn, asked.bound, asked.map, asked.room, asked.scratch
@@ -132,14 +103,19 @@ impl Tally {
                     room: lent_room.values(),
                 };
                 let sheet = written_sheet(&call, &written, &room, asked);
-                self.versions.count(&[asked.left, asked.right]);
+                self.of(asked).versions.count(&[asked.left, asked.right]);
                 self.pairs(&call, asked, &written, &sheet, shape);
                 self.claims(&call, asked, &written, claims);
             }
         }
-        self.compare.count(answer, "compared");
+        self.of(asked).answers.count(answer, "compared");
         self.turn += 1;
         lent_map.values().to_vec()
+    }
+
+    /// What was seen of the form that is asked for.
+    fn of(&mut self, asked: Asked) -> &mut Seen {
+        &mut self.seen[asked.sides.place()]
     }
 
     /// Values to be lent, so that what is not written shows.
@@ -152,74 +128,49 @@ impl Tally {
     }
 
     /// "Map place i × m + j is 0 if left i and right j are matched, else the entry of a question that parts them: it keeps to bound
-    /// c, is true at left i, false at right j, and is no deeper than n × m."
+    /// c, is true at left i, false at right j, and is no deeper than n × m." One-way it is 0 if the pair is covered.
     fn pairs(&mut self, call: &Call, asked: Asked, written: &Written, sheet: &Sheet, shape: usize) {
         let (one, other) = (Book::of_bytes(asked.left), Book::of_bytes(asked.right));
         let (n, m) = (one.cells(), other.cells());
-        let dropped = partings(&one, &other, asked.bound);
+        let dropped = partings(&one, &other, asked.bound, asked.sides);
         let dropped_before = match asked.bound {
             0 => dropped.clone(),
-            bound => partings(&one, &other, bound - 1),
+            bound => partings(&one, &other, bound - 1, asked.sides),
         };
         let ways = most_ways(&one, asked.bound).max(most_ways(&other, asked.bound));
+        let seen = self.of(asked);
         if n * m * ways * ways <= REACH {
-            let by_loops: Vec<_> = dropped.iter().map(|d| d.map(|d| d.round)).collect();
-            if rounds(&one, &other, asked.bound) != by_loops {
-                call.fail("the naive comparison and all pairs of paths give different rounds");
-            }
-            let by_first_reasons = compared(&one, &other, asked.bound, asked.version());
-            let Written { answer, map, room } = *written;
-            if let Some(what) = by_first_reasons.difference(answer, map, room) {
-                call.fail(&what);
-            }
-            self.naive += 1;
+            naive(call, asked, (&one, &other), written, &dropped);
+            seen.naive += 1;
+            seen.unions += (n * m <= FEW_PAIRS) as usize;
         }
-        self.searches.check(call, asked, written, &dropped, ways);
-        let (of_left, of_right) = (sheet_cells(&one, sheet), sheet_cells(&other, sheet));
-        let (depths, keeping) = (depths(sheet), keeping(sheet, asked.bound));
-        let pairs = &mut self.pairs[shape][asked.bound];
+        seen.searches.check(call, asked, written, &dropped, ways);
+        let questions = Questions::of(&one, &other, sheet);
+        truths(call, asked, written, &questions);
+        let cells = (&questions.of_left[..], &questions.of_right[..]);
+        seen.kept
+            .check(call, asked, (&one, &other), written.map, cells);
+        let pairs = &mut seen.pairs[shape][asked.bound];
         pairs.cases += 1;
         for (place, (&number, dropped)) in written.map.iter().zip(&dropped).enumerate() {
-            let (i, j) = (place / m, place % m);
-            let fail = |what: &str| -> ! {
-                call.fail(&format!("left {i}, right {j}, entry {number}: {what}"))
-            };
             let entry = number as usize;
+            let cells = (place / m, place % m);
+            if (entry == 0) != dropped.is_none() {
+                call.fail(&format!(
+                    "the pair {cells:?} has entry {entry}: {dropped:?}"
+                ));
+            }
             let Some(Dropped { round, .. }) = *dropped else {
-                if entry != 0 {
-                    fail("the pair is matched");
-                }
-                pairs.matched += 1;
+                pairs.stay += 1;
                 continue;
             };
-            if entry == 0 {
-                fail("the pair is parted");
-            }
-            if entry >= sheet.entries.len() {
-                fail("there is no such entry");
-            }
-            if !of_left[entry][i] {
-                fail("it is false at the left cell");
-            }
-            if of_right[entry][j] {
-                fail("it is true at the right cell");
-            }
-            if !keeping[entry] {
-                fail("it does not keep to the bound");
-            }
-            let depth = depths[entry];
-            if depth > n * m {
-                fail("it is too deep");
-            }
-            // By the theory no question that is less deep than the round tells the two apart.
-            if depth < round {
-                fail("it is less deep than can be");
+            if let Some(what) = questions.fault(entry, cells, round, n * m) {
+                call.fail(&format!("the pair {cells:?} has entry {entry}: {what}"));
             }
             pairs.parted += 1;
             pairs.by_bound += dropped_before[place].is_none() as usize;
-            self.least += (depth == round) as usize;
-            *self.depths.entry(depth).or_insert(0) += 1;
-            *self.questions.entry(name(sheet, entry)).or_insert(0) += 1;
+            *seen.depths.entry(round).or_insert(0) += 1;
+            *seen.questions.entry(name(sheet, entry)).or_insert(0) += 1;
         }
     }
 
@@ -243,85 +194,120 @@ impl Tally {
             if answer != accepted(1, 0) {
                 call.fail(&format!("claim of place {place} gives {answer:?}"));
             }
-            self.claims += 1;
+            self.of(asked).claims += 1;
         }
     }
 }
 
 // What was seen.
 impl Tally {
-    /// Prints the counts, and gives the number of cases.
-    pub fn report(&self) -> usize {
-        let cases = self.compare.report(
-            &["compared"],
-            &[
-                (LEFT_BOOK, &OF_BOOK),
-                (RIGHT_BOOK, &OF_BOOK),
-                (CALL, &[20, 21, 22, 23]),
-            ],
-        );
-        self.versions.report("compare");
-        self.report_pairs();
-        let parted: usize = self.depths.values().sum();
-        println!(
-            "questions of parted pairs: {parted}, by kind {:?}",
-            self.questions
-        );
-        let shallow: Vec<_> = self.depths.range(..9).collect();
-        let deepest = self.depths.keys().max().unwrap_or(&0);
-        println!("  by depth {shallow:?}, the deepest {deepest}");
-        println!("  of the least depth that there can be: {}", self.least);
-        println!("  claimed: {}", self.claims);
-        println!(
-            "the naive comparisons were in reach in {} cases",
-            self.naive
-        );
-        self.searches.report();
-        cases
+    /// "Matched pairs are covered both ways; the converse is not claimed." The maps are those of Compare, and of its one-way form from
+    /// left to right and from right to left.
+    pub fn both_ways(&mut self, matched: &[u16], ahead: &[u16], back: &[u16], m: usize) {
+        let n = matched.len() / m;
+        for place in 0..n * m {
+            let covered = ahead[place] == 0 && back[place % m * n + place / m] == 0;
+            assert!(covered || matched[place] != 0);
+            if covered {
+                self.both_ways[(matched[place] != 0) as usize] += 1;
+            }
+        }
     }
 
-    /// Prints how many pairs were matched and parted, and ends the test where either are few.
-    fn report_pairs(&self) {
-        println!("by shape and bound, pairs that are matched, that are parted, and of these those matched at the bound before:");
-        print!("  {:<20}{:>6}", "", "cases");
-        for bound in 0..5 {
-            print!("{:>22}", format!("bound {bound}"));
+    /// Prints the counts, and gives the number of cases.
+    pub fn report(&self) -> usize {
+        let cases = self.seen.iter().map(Seen::report).sum();
+        let [matched, others] = self.both_ways;
+        println!("pairs that are covered both ways: {matched} are matched, and {others} are not");
+        assert!(matched > 0 && others > 0);
+        cases
+    }
+}
+
+/// The naive comparison and all pairs of paths drop the same pairs in the same rounds, "the greatest is the union of all", and the library
+/// writes what first reasons give.
+fn naive(
+    call: &Call,
+    asked: Asked,
+    (left, right): (&Book, &Book),
+    written: &Written,
+    dropped: &[Option<Dropped>],
+) {
+    let Asked { bound, sides, .. } = asked;
+    let by_loops: Vec<_> = dropped.iter().map(|d| d.map(|d| d.round)).collect();
+    if rounds(left, right, bound, sides) != by_loops {
+        call.fail("the naive comparison and all pairs of paths give different rounds");
+    }
+    if dropped.len() <= FEW_PAIRS {
+        let stay: Vec<bool> = written.map.iter().map(|&number| number == 0).collect();
+        if union_of_all(left, right, bound, sides) != stay {
+            call.fail(
+                "the pairs that stay are not the union of all relations that keep the clauses",
+            );
         }
-        println!();
-        let names = SHAPES
-            .iter()
-            .map(|shape| shape.name)
-            .chain(["others", "10 to 20 cells"]);
-        for (name, of_shape) in names.zip(&self.pairs) {
-            let cases: usize = of_shape.iter().map(|pairs| pairs.cases).sum();
-            print!("  {name:<20}{cases:>6}");
-            for pairs in of_shape {
-                print!(
-                    "{:>9}{:>7}{:>6}",
-                    pairs.matched, pairs.parted, pairs.by_bound
-                );
-            }
-            println!();
+    }
+    let by_first_reasons = compared(left, right, bound, sides, asked.version());
+    let Written { answer, map, room } = *written;
+    if let Some(what) = by_first_reasons.difference(answer, map, room) {
+        call.fail(&what);
+    }
+}
+
+/// The questions of a sheet: where each is true in both books, how deep it is, and whether it keeps to the bound.
+struct Questions {
+    of_left: Vec<Cells>,
+    of_right: Vec<Cells>,
+    depths: Vec<usize>,
+    keeping: Vec<bool>,
+}
+
+impl Questions {
+    fn of(left: &Book, right: &Book, sheet: &Sheet) -> Questions {
+        Questions {
+            of_left: sheet_cells(left, sheet),
+            of_right: sheet_cells(right, sheet),
+            depths: depths(sheet),
+            keeping: keeping(sheet, sheet.bound as usize),
         }
-        for (shape, of_shape) in self.pairs.iter().enumerate() {
-            for (bound, pairs) in of_shape.iter().enumerate() {
-                let all = pairs.matched + pairs.parted;
-                if all == 0 || pairs.matched.min(pairs.parted) * 20 < all {
-                    println!("shape {shape}, bound {bound}: too few are matched, or parted");
-                    std::process::exit(1);
-                }
-            }
-        }
-        for bound in 1..5 {
-            let by_bound: usize = self
-                .pairs
-                .iter()
-                .map(|of_shape| of_shape[bound].by_bound)
-                .sum();
-            if by_bound < 100 {
-                println!("bound {bound}: too few are parted by it");
-                std::process::exit(1);
-            }
+    }
+
+    /// Why an entry is not one that a map may name for these cells, which are dropped in this round; if it is not.
+    fn fault(
+        &self,
+        entry: usize,
+        (i, j): (usize, usize),
+        round: usize,
+        pairs: usize,
+    ) -> Option<String> {
+        let Some(&depth) = self.depths.get(entry) else {
+            return Some("there is no such entry".to_string());
+        };
+        let faults = [
+            (!self.of_left[entry][i], "it is false at the left cell"),
+            (self.of_right[entry][j], "it is true at the right cell"),
+            (!self.keeping[entry], "it does not keep to the bound"),
+            (depth > pairs, "it is too deep"),
+            // By the theory no question that is less deep than the round tells the two apart.
+            (depth != round, "its depth is not the round"),
+        ];
+        let fault = faults.into_iter().find(|fault| fault.0);
+        fault.map(|(_, what)| format!("{what}; round {round}, depth {depth}"))
+    }
+}
+
+/// Truth of each book and the sheet is what the naive evaluator gives.
+fn truths(call: &Call, asked: Asked, written: &Written, questions: &Questions) {
+    let sheet = &written.room[..written.answer.first as usize];
+    let Questions {
+        of_left, of_right, ..
+    } = questions;
+    for (book, cells) in [(asked.left, of_left), (asked.right, of_right)] {
+        let mut words = vec![u64::MAX; cells.len()];
+        let answer = library::truth(book, sheet, &mut words);
+        if answer != accepted(0, 0) || !words.iter().copied().eq(cells.iter().map(word)) {
+            call.fail(&format!(
+                "truth of the sheet gives {answer:?}, or other words"
+            ));
         }
     }
 }
@@ -352,7 +338,20 @@ fn written_sheet(call: &Call, written: &Written, before: &[u8], asked: Asked) ->
             written.answer.second
         ));
     }
-    Sheet::of_bytes(bytes)
+    let sheet = Sheet::of_bytes(bytes);
+    // For a pair there are four entries at most: a reason, its denial, and an "and" for each cell. One-way neither the denial nor the right
+    // cell's "and" is written.
+    let most = match asked.sides {
+        Sides::Two => 4,
+        Sides::One => 2,
+    };
+    if sheet.entries.len() > 1 + most * asked.map {
+        call.fail(&format!("the sheet has {} entries", sheet.entries.len()));
+    }
+    if asked.sides == Sides::One && sheet.denies() {
+        call.fail("the sheet has a \"not\"");
+    }
+    sheet
 }
 
 /// What kind of question an entry is.

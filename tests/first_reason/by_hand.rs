@@ -1,13 +1,20 @@
 //! Books small enough to see what the plain loops come to first.
 
-use crate::support::books::{book, chain, example_a_left, example_a_right, link, Book};
+use crate::support::books::{
+    book, chain, example_a_left, example_a_right, link, marked_ring, Book,
+};
+use crate::support::measures::depths;
 use crate::support::sheets::Entry::{And, Differ, Not, Same, True, Way};
 use crate::support::sheets::{step, Entry, Sheet, Step};
+use crate::support::sides::Sides::{self, One, Two};
 use crate::tally::Tally;
 
 pub fn all(tally: &mut Tally) {
     example_a(tally);
+    example_a_one_way(tally);
     chains(tally);
+    chains_one_way(tally);
+    rings_one_way(tally);
     links(tally);
     wide_labels(tally);
     paths(tally);
@@ -52,10 +59,32 @@ fn example_a(tally: &mut Tally) {
     let map = [1, 3, 7, 0, 10, 0];
     let (left, right) = (example_a_left(), example_a_right());
     for bound in 1..=4 {
-        let sheet = whole(tally, &left, &right, bound, &map, &entries);
+        let sheet = whole(tally, Two, &left, &right, bound, &map, &entries);
         // The entry after always true: 6 bytes follow, or 7; kind 6, 0 steps and 1 step, label 1, test 0.
         assert_eq!(sheet.bytes(1)[10..][..7], [6, 6, 0, 1, 1, 0, 0]);
         assert_eq!(sheet.bytes(2)[10..][..8], [7, 6, 0, 1, 0, 1, 0, 0]);
+    }
+}
+
+/// Cells without links are covered by all cells, and nothing is denied.
+fn example_a_one_way(tally: &mut Tally) {
+    let (left, right) = (example_a_left(), example_a_right());
+    let (map, entries) = ([0, 1, 0, 0, 0, 0], [way(1)]);
+    whole(tally, One, &left, &right, 0, &map, &entries);
+    let entries = [
+        // (0, 0)
+        differ(&[], &[1]),
+        // (0, 1)
+        way(1),
+        And(1, 2),
+    ];
+    for bound in 1..=4 {
+        let map = [1, 2, 0, 0, 0, 0];
+        whole(tally, One, &left, &right, bound, &map, &entries);
+        // The right book offers nothing that the left one does not.
+        let map = [0, 1, 2, 0, 0, 0];
+        let entries = [way(1), way(1), And(1, 2)];
+        whole(tally, One, &right, &left, bound, &map, &entries);
     }
 }
 
@@ -81,20 +110,59 @@ fn chains(tally: &mut Tally) {
     let map = [8, 1, 0, 3, 7, 0];
     let (left, right) = (chain(vec![5; 3], |_| 1), chain(vec![5; 2], |_| 1));
     for bound in 0..=1 {
-        whole(tally, &left, &right, bound, &map, &entries);
+        whole(tally, Two, &left, &right, bound, &map, &entries);
+    }
+}
+
+/// The longer chain is not covered by the shorter, which the second round tells by what the first wrote of the left cells alone. The
+/// shorter is covered by the longer wherever there is a link after.
+fn chains_one_way(tally: &mut Tally) {
+    let entries = [
+        // (0, 1)
+        way(1),
+        // (1, 1)
+        way(1),
+        // (0, 0), in the second round
+        Way(vec![step(1, 2)]),
+        And(1, 3),
+    ];
+    let (long, short) = (chain(vec![5; 3], |_| 1), chain(vec![5; 2], |_| 1));
+    for bound in 0..=1 {
+        let map = [3, 1, 0, 2, 0, 0];
+        whole(tally, One, &long, &short, bound, &map, &entries);
+    }
+    for bound in 0..=4 {
+        let map = [0, 0, 1, 0, 0, 0];
+        whole(tally, One, &short, &long, bound, &map, &[way(1)]);
+    }
+}
+
+/// One cell of the left ring is marked, and all of the right one but one: the first round parts this pair, and each round the pair before
+/// the last. Where the rings' lengths have no common divisor all pairs are parted so, and the deepest question has depth n × m.
+fn rings_one_way(tally: &mut Tally) {
+    for (n, m) in [(1, 2), (2, 3), (3, 4), (4, 5), (5, 3)] {
+        let (left, right) = (marked_ring(n, |x| x == 0), marked_ring(m, |x| x != 0));
+        for bound in 0..=1 {
+            let (map, sheet) = tally.every_mix(One, &left, &right, bound);
+            let depths = depths(&sheet);
+            let mut named: Vec<usize> = map.iter().map(|&k| depths[k as usize]).collect();
+            named.sort();
+            assert!(named.into_iter().eq(1..=n as usize * m as usize));
+        }
     }
 }
 
 /// Compares the books in every mix of versions: the map is this one, and the entries are these after always true. Gives the sheet.
 fn whole(
     tally: &mut Tally,
+    sides: Sides,
     left: &Book,
     right: &Book,
     bound: usize,
     map: &[u16],
     entries: &[Entry],
 ) -> Sheet {
-    let (given, sheet) = tally.every_mix(left, right, bound);
+    let (given, sheet) = tally.every_mix(sides, left, right, bound);
     assert_eq!(given, map);
     assert_eq!(sheet.entries, [&[True][..], entries].concat());
     sheet
@@ -151,10 +219,13 @@ fn paths(tally: &mut Tally) {
 }
 
 /// Compares the books in every mix of versions: the first pair is parted in the first round, by this entry at the left cell or else at
-/// the right one.
+/// the right one. One-way it is parted, by the same entry, where it is at the left.
 fn first(tally: &mut Tally, left: &Book, right: &Book, bound: usize, at_left: bool, entry: Entry) {
-    let (map, sheet) = tally.every_mix(left, right, bound);
+    let (map, sheet) = tally.every_mix(Two, left, right, bound);
     assert_eq!(map[0], if at_left { 1 } else { 2 });
     assert_eq!(sheet.entries[1], entry);
     assert_eq!(sheet.entries[2], Not(1));
+    let (map, sheet) = tally.every_mix(One, left, right, bound);
+    assert_eq!(map[0] == 1, at_left);
+    assert!(!at_left || sheet.entries[1] == entry);
 }

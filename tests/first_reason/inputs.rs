@@ -3,10 +3,11 @@
 use crate::support::books::{book, link};
 use crate::support::random::Random;
 use crate::support::shapes::{draw, SHAPES};
+use crate::support::sides::{Sides, FORMS};
 use crate::tally::Tally;
 
-/// How many pairs of books of each shape at each bound.
-const DRAWN: usize = 1_800;
+/// How many pairs of books of each shape at each bound. Every third is compared one-way.
+const DRAWN: usize = 2_000;
 
 pub fn all(tally: &mut Tally) {
     let random = &mut Random::new(15);
@@ -30,7 +31,9 @@ fn every_small(tally: &mut Tally) {
     for left in &books {
         for right in &books {
             for bound in 0..=4 {
-                tally.compare(left, right, bound);
+                for sides in FORMS {
+                    tally.compare(sides, left, right, bound);
+                }
             }
         }
     }
@@ -42,9 +45,13 @@ fn by_shape(tally: &mut Tally, random: &mut Random) {
         for bound in 0..=4 {
             for round in 0..DRAWN {
                 let (left, right) = draw(random, shape, bound);
+                let sides = match round % 3 {
+                    0 => Sides::One,
+                    _ => Sides::Two,
+                };
                 match round % 20 {
-                    0 => tally.every_mix(&left, &right, bound),
-                    _ => tally.compare(&left, &right, bound),
+                    0 => tally.every_mix(sides, &left, &right, bound),
+                    _ => tally.compare(sides, &left, &right, bound),
                 };
             }
         }

@@ -1,5 +1,5 @@
-//! Which reason Compare finds (document 02, request 2026-05): all that it leaves is compared, to the byte, with plain nested loops over
-//! links and paths; and where it names a comparison, every question with fewer steps is asked.
+//! Which reason Compare and its one-way form find (document 02, requests 2026-05 and 2026-03): all that they leave is compared, to the byte,
+//! with plain nested loops over links and paths; and where they name a comparison, every question with fewer steps is asked.
 
 mod by_hand;
 mod inputs;

@@ -1,12 +1,13 @@
 //! "Where the map names a same or a differ, no question of that kind within the bound, with fewer steps in all and only always true as
 //! tests, is true at the left and false at the right cell" (document 02, request 2026-05). All of them, of either kind and by the
-//! labels of the two books, are asked.
+//! labels of the two books, are asked. Pairs that stay keep them all.
 
 use crate::support::books::Book;
 use crate::support::call::Call;
 use crate::support::meaning::sheet_cells;
 use crate::support::measures::named;
 use crate::support::sheets::{step, Entry, Sheet, Step};
+use crate::support::sides::Sides;
 use std::collections::BTreeSet;
 
 #[derive(Default)]
@@ -16,11 +17,21 @@ pub struct Shorter {
     plain: usize,
     /// The questions that were asked of two books.
     asked: usize,
+    /// How often one was true at the left cell of a pair that stays, and at the right one.
+    kept: usize,
 }
 
 impl Shorter {
     /// Asks all questions with fewer steps than a comparison in the map.
-    pub fn check(&mut self, call: &Call, left: &Book, right: &Book, map: &[u16], sheet: &Sheet) {
+    pub fn check(
+        &mut self,
+        call: &Call,
+        sides: Sides,
+        left: &Book,
+        right: &Book,
+        map: &[u16],
+        sheet: &Sheet,
+    ) {
         let m = right.cells();
         let entry = |place: usize| &sheet.entries[map[place] as usize];
         let steps = |place: usize| match entry(place) {
@@ -43,6 +54,15 @@ impl Shorter {
                     ));
                 }
             }
+            for place in (0..map.len()).filter(|&place| map[place] == 0) {
+                for (of_left, of_right) in of_left.iter().zip(&of_right) {
+                    let (at_left, at_right) = (of_left[place / m], of_right[place % m]);
+                    if at_left && !at_right || sides == Sides::Two && at_right && !at_left {
+                        call.fail(&format!("place {place} does not keep some question"));
+                    }
+                    self.kept += at_left as usize;
+                }
+            }
             self.asked += questions.entries.len() - 1;
         }
         for place in (0..map.len()).filter(|&place| steps(place) > 0) {
@@ -53,8 +73,8 @@ impl Shorter {
 
     pub fn report(&self) {
         println!(
-            "shorter questions than the {} comparisons at the left, of which {} have only always true as tests: {} were asked of two books",
-            self.comparisons, self.plain, self.asked
+            "shorter questions than the {} comparisons at the left, of which {} have only always true as tests: {} were asked of two books; pairs that stay keep {}",
+            self.comparisons, self.plain, self.asked, self.kept
         );
     }
 }

@@ -10,16 +10,17 @@ use crate::support::library::{self, needed};
 use crate::support::loops::Reason;
 use crate::support::random::Random;
 use crate::support::sheets::Sheet;
+use crate::support::sides::{Sides, FORMS};
 use crate::support::versions::{any_version, versions_of, written_version};
 
 /// The most steps in all of a comparison: two ways of 4.
 const MOST_STEPS: usize = 8;
 
-/// What the maps at one bound name.
+/// What the maps of one form at one bound name.
 #[derive(Default)]
 struct Named {
     cases: usize,
-    matched: usize,
+    stay: usize,
     /// Links, at the left cell or at the right one.
     links: [usize; 2],
     /// Comparisons at the left cell or, denied, at the right one; by their steps in all.
@@ -31,7 +32,8 @@ pub struct Tally {
     turn: usize,
     /// Of the left book and the right one.
     versions: Versions,
-    by_bound: [Named; 5],
+    /// Of each of the `FORMS`, by bound.
+    by_bound: [[Named; 5]; 2],
     shorter: Shorter,
 }
 
@@ -47,30 +49,43 @@ impl Tally {
     }
 
     /// Compares the books in any versions that have their labels. Gives the map and the sheet.
-    pub fn compare(&mut self, left: &Book, right: &Book, bound: usize) -> (Vec<u16>, Sheet) {
+    pub fn compare(
+        &mut self,
+        sides: Sides,
+        left: &Book,
+        right: &Book,
+        bound: usize,
+    ) -> (Vec<u16>, Sheet) {
         let one = any_version(&mut self.random, left.labels());
         let other = any_version(&mut self.random, right.labels());
-        self.compare_in([one, other], left, right, bound)
+        self.compare_in([one, other], sides, left, right, bound)
     }
 
     /// Compares the books in every mix of versions that have their labels: all leave the same map and, but for the version, the same
     /// sheet. Gives these.
-    pub fn every_mix(&mut self, left: &Book, right: &Book, bound: usize) -> (Vec<u16>, Sheet) {
+    pub fn every_mix(
+        &mut self,
+        sides: Sides,
+        left: &Book,
+        right: &Book,
+        bound: usize,
+    ) -> (Vec<u16>, Sheet) {
         let mut written = Vec::new();
         for &one in versions_of(left.labels()) {
             for &other in versions_of(right.labels()) {
-                written.push(self.compare_in([one, other], left, right, bound));
+                written.push(self.compare_in([one, other], sides, left, right, bound));
             }
         }
         assert!(written.windows(2).all(|two| two[0] == two[1]));
         written.remove(0)
     }
 
-    /// In these versions the library's answer, map and sheet are those of the plain loops, and bytes after the sheet are unchanged.
-    /// Where the map names a comparison, no shorter one parts the cells. Gives the map and the sheet.
+    /// In these versions the library's answer, map and sheet are those of the plain loops, bytes after the sheet are unchanged, and the
+    /// scratch ends as zeros. Where the map names a comparison, no shorter one parts the cells. Gives the map and the sheet.
     fn compare_in(
         &mut self,
         [one, other]: [u8; 2],
+        sides: Sides,
         left: &Book,
         right: &Book,
         bound: usize,
@@ -86,6 +101,7 @@ impl Tally {
         let mut lent_room = Lent::new(&room, self.turn + 3, around);
         let mut scratch = vec![around; scratch];
         let answer = library::compare(
+            sides,
             &one,
             &other,
             bound,
@@ -95,11 +111,11 @@ impl Tally {
         );
 
         let call = Call {
-            name: "compare",
+            name: sides.operation(),
             numbers: format!("case {}, bound {bound}", self.turn),
             inputs: &[("left book", &one), ("right book", &other)],
         };
-        let expected = compared(left, right, bound, version);
+        let expected = compared(left, right, bound, sides, version);
         if let Some(what) = expected.difference(answer, lent_map.values(), lent_room.values()) {
             call.fail(&what);
         }
@@ -107,24 +123,30 @@ impl Tally {
         if lent_room.values()[length..] != room[length..] {
             call.fail("bytes after the sheet were changed");
         }
+        if scratch.iter().any(|&byte| byte != 0) {
+            call.fail("the scratch does not end as zeros");
+        }
         if !lent_map.alone() || !lent_room.alone() {
             call.fail("what is beside the map or the room was changed");
         }
-        let sheet = Sheet::of_bytes(&expected.sheet);
+        let sheet = Sheet::of_bytes(&lent_room.values()[..length]);
+        if sides == Sides::One && sheet.denies() {
+            call.fail("the sheet has a \"not\"");
+        }
         self.versions.count(&[&one, &other]);
-        self.count(&expected.map, &sheet);
+        self.count(sides, &expected.map, &sheet);
         self.shorter
-            .check(&call, left, right, &expected.map, &sheet);
+            .check(&call, sides, left, right, &expected.map, &sheet);
         self.turn += 1;
         (expected.map, sheet)
     }
 
-    fn count(&mut self, map: &[u16], sheet: &Sheet) {
-        let named = &mut self.by_bound[sheet.bound as usize];
+    fn count(&mut self, sides: Sides, map: &[u16], sheet: &Sheet) {
+        let named = &mut self.by_bound[sides.place()][sheet.bound as usize];
         named.cases += 1;
         for &number in map {
             if number == 0 {
-                named.matched += 1;
+                named.stay += 1;
                 continue;
             }
             let reason = Reason::of_entry(sheet, number);
@@ -138,13 +160,26 @@ impl Tally {
 
     /// Prints the counts, and gives the number of cases. Ends the test where no comparison has some number of steps in all.
     pub fn report(&self) -> usize {
-        println!("what the maps name, by bound:");
-        for (bound, named) in self.by_bound.iter().enumerate() {
+        for sides in FORMS {
+            self.report_named(sides);
+        }
+        self.shorter.report();
+        self.versions.report("compare");
+        self.turn
+    }
+
+    /// Prints what the maps of one form name, which one-way is never at the right.
+    fn report_named(&self, sides: Sides) {
+        println!("what the maps of {} name, by bound:", sides.operation());
+        for (bound, named) in self.by_bound[sides.place()].iter().enumerate() {
             println!(
-                "  bound {bound}: {} cases, {} matched",
-                named.cases, named.matched
+                "  bound {bound}: {} cases, {} {}",
+                named.cases,
+                named.stay,
+                sides.stays()
             );
-            for (side, name) in ["at the left", "at the right"].into_iter().enumerate() {
+            let names = ["at the left", "at the right"].into_iter().enumerate();
+            for (side, name) in names.take(1 + (sides == Sides::Two) as usize) {
                 let by_steps = &named.comparisons[side][..=2 * bound];
                 let comparisons: usize = by_steps.iter().sum();
                 println!(
@@ -158,8 +193,5 @@ impl Tally {
                 }
             }
         }
-        self.shorter.report();
-        self.versions.report("compare");
-        self.turn
     }
 }

@@ -6,6 +6,7 @@
 void call_checks(void);
 
 void call_compare(void);
+void call_compare_one_way(void);
 void call_truth(void);
 void call_claim(void);
 

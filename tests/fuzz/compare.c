@@ -1,4 +1,4 @@
-/* Compare. */
+/* Compare, and its one-way form. */
 #include "calls.h"
 #include "cuhnavel.h"
 #include "facts.h"
@@ -50,8 +50,17 @@ static size_t room_needed(const struct list *other, size_t pairs)
     return 10 + (wide(other) ? 52 : 44) * pairs;
 }
 
-/* What an accepted Compare left. */
-static void compared(const struct list *other, size_t m, size_t bound, uint64_t answer)
+/* No entry of the sheet, which is accepted and starts the room, is a "not". */
+static bool denies_nothing(size_t sheet_size)
+{
+    size_t at = 8;
+    while (at < sheet_size && room.start[at + 1] != 1)
+        at += 1 + room.start[at];
+    return at == sheet_size;
+}
+
+/* What an accepted Compare left, in one of its forms. */
+static void compared(enum function form, const struct list *other, size_t m, size_t bound, uint64_t answer)
 {
     size_t sheet_size = CUHNAVEL_FIRST(answer), count = map.size / 2, zeros = 0;
     FACT(sheet_size >= 10 && sheet_size <= room_needed(other, count));
@@ -59,6 +68,8 @@ static void compared(const struct list *other, size_t m, size_t bound, uint64_t 
     FACT(room.start[4] == (wide(other) ? 2 : 1));
     uint64_t of_sheet = check_sheet(room.start, sheet_size);
     FACT(CUHNAVEL_REFUSAL(of_sheet) == 0 && CUHNAVEL_SECOND(of_sheet) == bound);
+    FACT(CUHNAVEL_FIRST(of_sheet) <= 1 + (form == COMPARE ? 4 : 2) * count);
+    FACT(form == COMPARE || denies_nothing(sheet_size));
     const uint16_t *place = (const uint16_t *)map.start;
     for (size_t k = 0; k < count; k++) {
         FACT(place[k] < CUHNAVEL_FIRST(of_sheet));
@@ -70,7 +81,8 @@ static void compared(const struct list *other, size_t m, size_t bound, uint64_t 
     claim_one(other, m, sheet_size, CUHNAVEL_FIRST(of_sheet));
 }
 
-void call_compare(void)
+/* One of the two forms. */
+static void call_form(enum function form)
 {
     uint64_t of_left = any_book_lent(&left);
     const struct list *other = one_in(8) ? &left : &right; /* the two may be the same book */
@@ -81,9 +93,9 @@ void call_compare(void)
     lend_any(&map, 2 * any_length(pairs));
     lend_any(&room, any_length(room_needed(other, pairs)));
     lend_any(&scratch, any_length(16 * pairs));
-    uint64_t answer = counted(COMPARE, cuhnavel_compare(left.start, left.size, other->start, other->size, bound,
-                                                        (uint16_t *)map.start, map.size / 2, room.start, room.size,
-                                                        scratch.start, scratch.size));
+    uint64_t answer = counted(form, (form == COMPARE ? cuhnavel_compare : cuhnavel_compare_one_way)(
+                                        left.start, left.size, other->start, other->size, bound, (uint16_t *)map.start,
+                                        map.size / 2, room.start, room.size, scratch.start, scratch.size));
     const uint64_t refusals[] = {
         call_refused(20, bound > 4),
         refusal_of(of_left, CUHNAVEL_LEFT_BOOK),
@@ -94,9 +106,19 @@ void call_compare(void)
     };
     if (first_of(refusals, 6) == 0) {
         FACT(CUHNAVEL_REFUSAL(answer) == 0);
-        compared(other, m, bound, answer);
+        compared(form, other, m, bound, answer);
         return;
     }
     FACT(answer == first_of(refusals, 6));
     FACT(as_lent(&map, 0) && as_lent(&room, 0) && as_lent(&scratch, 0));
+}
+
+void call_compare(void)
+{
+    call_form(COMPARE);
+}
+
+void call_compare_one_way(void)
+{
+    call_form(COMPARE_ONE_WAY);
 }

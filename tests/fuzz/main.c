@@ -39,7 +39,8 @@ void not_a_fact(const char *fact, const char *file, int line)
 static void run_case(void)
 {
     static void (*const calls[])(void) = {
-        call_checks, call_compare, call_compare, call_truth, call_claim, call_claim, call_row, call_pair, call_links, call_texts,
+        call_checks, call_compare, call_compare_one_way, call_truth, call_claim, call_claim,
+        call_row,    call_pair,    call_links,           call_texts,
     };
     random_seed(number);
     calls[below(sizeof calls / sizeof calls[0])]();

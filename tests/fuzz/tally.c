@@ -21,6 +21,7 @@ static struct {
     [CHECK_BOOK] = {"check_book", {[CUHNAVEL_LEFT_BOOK] = OF_BOOK}},
     [CHECK_SHEET] = {"check_sheet", {[CUHNAVEL_SHEET] = OF_SHEET}},
     [COMPARE] = {"compare", {BIT(20) | BIT(21) | BIT(22) | BIT(23), OF_BOOK, OF_BOOK}},
+    [COMPARE_ONE_WAY] = {"compare_one_way", {BIT(20) | BIT(21) | BIT(22) | BIT(23), OF_BOOK, OF_BOOK}},
     [TRUTH] = {"truth", {BIT(24), OF_BOOK, 0, OF_SHEET}},
     [CLAIM] = {"claim", {BIT(24) | BIT(25) | BIT(26), OF_BOOK, OF_BOOK, OF_SHEET}},
     [ROW] = {"row", {BIT(26) | BIT(27)}},

@@ -9,6 +9,7 @@ enum function {
     CHECK_BOOK,
     CHECK_SHEET,
     COMPARE,
+    COMPARE_ONE_WAY,
     TRUTH,
     CLAIM,
     ROW,

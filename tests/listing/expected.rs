@@ -4,6 +4,7 @@ use crate::support::books::Book;
 use crate::support::checks::check_book;
 use crate::support::outcome::{refused, Outcome, CALL, LEFT_BOOK, RIGHT_BOOK};
 use crate::support::partners::rounds;
+use crate::support::sides::Sides;
 
 pub const MOST_BYTES: usize = 8_192;
 pub const MOST_CELLS: usize = 32;
@@ -84,7 +85,7 @@ impl Listing<'_> {
     fn text(&self) -> String {
         let (left, right) = (Book::of_bytes(self.left), Book::of_bytes(self.right));
         let (n, m) = (left.cells(), right.cells());
-        let dropped = rounds(&left, &right, self.bound);
+        let dropped = rounds(&left, &right, self.bound, Sides::Two);
         let mut text = format!("books {n} {m} bound {}\n", self.bound);
         for (i, row) in dropped.chunks(m).enumerate() {
             let partners = || (0..m).filter(|&j| row[j].is_none());

@@ -1,9 +1,10 @@
 //! Compare in plain Rust, by the library's method: the same rounds over the same pairs in the same order, without those that a row
-//! before tells to stay; the same search over classes of paths in tables, without covered tips, for whether there is a reason, and
+//! before tells to stay where both sides count; the same search over classes of paths in tables, without covered tips, for whether there is a reason, and
 //! then link by link for the first. So map and sheet are the library's to the byte, with tables of whatever size.
 
 use crate::support::checks::check_book;
 use crate::support::outcome::{accepted, refused, Outcome, CALL, LEFT_BOOK, RIGHT_BOOK};
+use crate::support::sides::Sides;
 use crate::support::versions::{label_of, label_width, link_width, step_width, written_version};
 use std::sync::atomic::{AtomicUsize, Ordering};
 
@@ -660,20 +661,30 @@ impl Sheet<'_> {
         self.put_numbers(AND, &[old, question]);
     }
 
-    /// Parts the pair (i, j), whose reason is written: `at_left` is true at i and false at j, `at_right` the other way round.
+    /// Parts the pair (i, j), of this place of the map: the last entry is true at i and false at j or, unless `ahead`, the other way round.
+    /// Where both sides count it is denied, and the cells of both are described.
     fn part(
         &mut self,
-        map: &mut [u16],
-        place: usize,
+        sides: Sides,
+        place: &mut u16,
         described: &mut Described,
         (i, j): (usize, usize),
-        at_left: u16,
-        at_right: u16,
+        ahead: bool,
     ) {
-        self.put_numbers(NOT, &[self.next - 1]);
-        map[place] = at_left;
+        let asked = self.next - 1;
+        let denied = self.next;
+        if sides == Sides::Two {
+            self.put_numbers(NOT, &[asked]);
+        }
+        let (at_left, at_right) = match ahead {
+            true => (asked, denied),
+            false => (denied, asked),
+        };
+        *place = at_left;
         self.describe(&mut described.left[i], at_left);
-        self.describe(&mut described.right[j], at_right);
+        if sides == Sides::Two {
+            self.describe(&mut described.right[j], at_right);
+        }
     }
 
     fn put_header(&mut self, bound: u8) {
@@ -710,9 +721,11 @@ fn first_row(map: &[u16], m: usize, i: usize, j: usize) -> usize {
     (0..i).find(|x| map[x * m + j] == 0).unwrap_or(i)
 }
 
-/// One round: every pair whose place holds 0, under the relation and by the descriptions that the round began with. Rows that share
-/// a pair that stays are equal: where the twin of a row, a row before that shares one, tells that a pair stays, it is not searched.
+/// One round: every pair whose place holds 0, under the relation and by the descriptions that the round began with. Where both sides count,
+/// rows that share a pair that stays are equal: where the twin of a row, a row before that shares one, tells that a pair stays, it is not
+/// searched.
 fn round<const PLACES: usize>(
+    sides: Sides,
     left: &Graph,
     right: &Graph,
     bound: usize,
@@ -739,25 +752,25 @@ fn round<const PLACES: usize>(
             let place = i * m + j;
             let follows = twin < i && map[twin * m + j] == 0;
             if map[place] == 0 && !follows {
-                let asked = sheet.next;
-                let denied = asked + 1;
+                let place = &mut map[place];
                 if let Some(reason) = ahead.reason(i, j, bound) {
                     sheet.put_reason(left, &reason, &began.left);
-                    sheet.part(map, place, described, (i, j), asked, denied);
-                } else if let Some(reason) = back.reason(j, i, bound) {
+                    sheet.part(sides, place, described, (i, j), true);
+                } else if let Some(reason) = sides.from_right(|| back.reason(j, i, bound)) {
                     sheet.put_reason(right, &reason, &began.right);
-                    sheet.part(map, place, described, (i, j), denied, asked);
+                    sheet.part(sides, place, described, (i, j), false);
                 }
             }
-            if twin == i && map[place] == 0 {
+            if sides == Sides::Two && twin == i && map[place] == 0 {
                 twin = first_row(map, m, i, j);
             }
         }
     }
 }
 
-/// Compare, with all its refusals. The library's tables have 128 places.
+/// Compare, or its one-way form, with all refusals. The library's tables have 128 places.
 pub fn compare<const PLACES: usize>(
+    sides: Sides,
     left: &[u8],
     right: &[u8],
     bound: usize,
@@ -802,13 +815,13 @@ pub fn compare<const PLACES: usize>(
     };
     loop {
         let entries = sheet.next;
-        round::<PLACES>(&left, &right, bound, map, &mut sheet, &mut described);
+        round::<PLACES>(sides, &left, &right, bound, map, &mut sheet, &mut described);
         if sheet.next == entries {
             break;
         }
     }
     sheet.put_header(bound as u8);
     scratch.fill(0);
-    let matched = map.iter().filter(|&&place| place == 0).count();
-    accepted(sheet.at as u32, matched as u32)
+    let stay = map.iter().filter(|&&place| place == 0).count();
+    accepted(sheet.at as u32, stay as u32)
 }

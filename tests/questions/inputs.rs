@@ -6,9 +6,9 @@ use crate::support::meaning::{sheet_cells, spelled_out};
 use crate::support::outcome::accepted;
 use crate::support::random::Random;
 use crate::support::sheets::{random_sheet, step, Entry, Sheet, Step};
+use crate::support::telling::{any_book, telling_sheet, Naming, Plan};
 use crate::support::versions::{MIXES, VERSIONS};
 use crate::tally::Tally;
-use crate::telling::{any_book, telling_sheet, Naming, Plan};
 
 const MOST_ENTRIES: usize = 16_385;
 const MOST_STEPS: usize = 60;
@@ -203,6 +203,7 @@ fn spelled(tally: &mut Tally, random: &mut Random) {
             entries: random.between(1, 6),
             longest: 3,
             naming: Naming::Any,
+            denials: true,
             draws: 4,
         };
         let sheet = telling_sheet(random, &book, plan);
@@ -225,6 +226,7 @@ fn small(tally: &mut Tally, random: &mut Random) {
             entries: random.between(1, 24),
             longest: random.pick(&[1, 2, 4, 4, 6]),
             naming: random.pick(&[Naming::Any, Naming::Any, Naming::Last, Naming::First]),
+            denials: true,
             draws: 4,
         };
         let sheet = match round % 8 {
@@ -246,6 +248,7 @@ fn sizes(tally: &mut Tally, random: &mut Random) {
                 entries: random.between(6, 20),
                 longest: random.pick(&[2, 4, 8]),
                 naming: Naming::Any,
+                denials: true,
                 draws: 2,
             };
             let sheet = telling_sheet(random, &book, plan);
@@ -272,6 +275,7 @@ fn large(tally: &mut Tally, random: &mut Random) {
             entries: 24,
             longest: MOST_STEPS,
             naming: Naming::Any,
+            denials: true,
             draws: 3,
         };
         let sheet = telling_sheet(random, &book, plan);
@@ -336,6 +340,7 @@ fn deep(tally: &mut Tally, random: &mut Random) {
             },
             longest: 3,
             naming: Naming::Last,
+            denials: true,
             draws: 6,
         };
         let sheet = telling_sheet(random, &book, plan);
@@ -353,6 +358,7 @@ fn most_entries(tally: &mut Tally, random: &mut Random) {
             entries: MOST_ENTRIES,
             longest,
             naming: Naming::Any,
+            denials: true,
             draws,
         };
         let sheet = telling_sheet(random, &book, plan);

@@ -9,7 +9,6 @@ mod refused_inputs;
 #[path = "../support/mod.rs"]
 mod support;
 mod tally;
-mod telling;
 
 use tally::Tally;
 

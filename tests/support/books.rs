@@ -114,6 +114,15 @@ pub fn ring(recordings: Vec<u32>) -> Book {
     }
 }
 
+/// A ring of one recording by label 1, of which some cells have a link to themselves by label 2.
+pub fn marked_ring(cells: u8, marked: impl Fn(u8) -> bool) -> Book {
+    let mut book = ring(vec![5; cells as usize]);
+    let marks = (0..cells).filter(|&x| marked(x));
+    book.links.extend(marks.map(|x| link(x, 2, x)));
+    book.links.sort();
+    book
+}
+
 /// The most links that a book of `cells` cells can have with so many different labels.
 pub fn most_links(cells: usize, labels: usize) -> usize {
     (cells * labels * cells).min(512)

@@ -5,6 +5,7 @@ use super::books::{Book, Link};
 use super::first_reason::{Comparison, Reason, Side, View};
 use super::outcome::{accepted, Outcome};
 use super::sheets::{step, Entry, Sheet, Step};
+use super::sides::Sides;
 
 /// What Compare leaves.
 pub struct Compared {
@@ -56,6 +57,7 @@ impl Described {
 
 /// What is written so far.
 struct State {
+    sides: Sides,
     entries: Vec<Entry>,
     /// 0 where a pair is not parted.
     map: Vec<u16>,
@@ -78,25 +80,36 @@ impl State {
         }
     }
 
-    /// Parts (a, b), at this place of the map, by an entry that is true at a or else at b.
+    /// Parts (a, b), at this place of the map, by an entry that is true at a or else at b. One-way nothing is denied, and right cells are
+    /// not described.
     fn part(&mut self, place: usize, (a, b): (usize, usize), entry: Entry, at_left: bool) {
         let asked = self.write(entry);
+        if self.sides == Sides::One {
+            self.name(place, a, asked);
+            return;
+        }
         let denied = self.write(Entry::Not(asked));
         let (of_left, of_right) = match at_left {
             true => (asked, denied),
             false => (denied, asked),
         };
-        self.map[place] = of_left;
-        self.left.new[a] = self.write_both(self.left.new[a], of_left);
+        self.name(place, a, of_left);
         self.right.new[b] = self.write_both(self.right.new[b], of_right);
+    }
+
+    /// The map names an entry that is true at a, and it describes a, with what did before.
+    fn name(&mut self, place: usize, a: usize, number: u16) {
+        self.map[place] = number;
+        self.left.new[a] = self.write_both(self.left.new[a], number);
     }
 }
 
 /// What Compare leaves for two books, where it writes a sheet of this version: at most as many rounds as there are pairs, until one parts
 /// none. Each parts the pairs that have a reason under the relation that it began with.
-pub fn compared(left: &Book, right: &Book, c: usize, version: u8) -> Compared {
+pub fn compared(left: &Book, right: &Book, c: usize, sides: Sides, version: u8) -> Compared {
     let (n, m) = (left.cells(), right.cells());
     let mut state = State {
+        sides,
         entries: vec![Entry::True],
         map: vec![0; n * m],
         left: Described::begun(left),
@@ -121,7 +134,7 @@ pub fn compared(left: &Book, right: &Book, c: usize, version: u8) -> Compared {
             if let Some(reason) = ahead.first_reason(a, b, c) {
                 let entry = state.left.entry(&reason);
                 state.part(place, (a, b), entry, true);
-            } else if let Some(reason) = back.first_reason(b, a, c) {
+            } else if let Some(reason) = sides.from_right(|| back.first_reason(b, a, c)) {
                 let entry = state.right.entry(&reason);
                 state.part(place, (a, b), entry, false);
             }

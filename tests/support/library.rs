@@ -1,6 +1,7 @@
 //! The library's functions for C (include/cuhnavel.h), as safe functions.
 
 use super::outcome::Outcome;
+use super::sides::Sides;
 use super::versions::step_width;
 
 extern "C" {
@@ -38,6 +39,19 @@ extern "C" {
     ) -> u64;
     fn cuhnavel_links(book: *const u8, book_len: usize, cell: usize) -> u64;
     fn cuhnavel_compare(
+        left: *const u8,
+        left_len: usize,
+        right: *const u8,
+        right_len: usize,
+        bound: usize,
+        map: *mut u16,
+        map_len: usize,
+        room: *mut u8,
+        room_len: usize,
+        scratch: *mut u8,
+        scratch_len: usize,
+    ) -> u64;
+    fn cuhnavel_compare_one_way(
         left: *const u8,
         left_len: usize,
         right: *const u8,
@@ -140,8 +154,9 @@ pub fn needed(pairs: usize, version: u8) -> (usize, usize, usize) {
     (pairs, room, 16 * pairs)
 }
 
-/// Compare.
+/// Compare, or its one-way form.
 pub fn compare(
+    sides: Sides,
     left: &[u8],
     right: &[u8],
     bound: usize,
@@ -149,8 +164,12 @@ pub fn compare(
     room: &mut [u8],
     scratch: &mut [u8],
 ) -> Outcome {
+    let compare = match sides {
+        Sides::Two => cuhnavel_compare,
+        Sides::One => cuhnavel_compare_one_way,
+    };
     Outcome::of_number(unsafe {
-        cuhnavel_compare(
+        compare(
             left.as_ptr(),
             left.len(),
             right.as_ptr(),

@@ -3,6 +3,7 @@
 
 use super::books::Book;
 use super::sheets::{Entry, Sheet};
+use super::sides::Sides;
 
 /// What parts a pair, but for its labels and cells.
 #[derive(Clone, Copy, PartialEq, Eq, Debug)]
@@ -149,8 +150,8 @@ fn parted(
     None
 }
 
-/// When and by what each pair of cells (i, j) is dropped, at place i × m + j, or none: the matched pairs.
-pub fn partings(left: &Book, right: &Book, c: usize) -> Vec<Option<Dropped>> {
+/// When and by what each pair of cells (i, j) is dropped, at place i × m + j, or none: the pairs that stay.
+pub fn partings(left: &Book, right: &Book, c: usize, sides: Sides) -> Vec<Option<Dropped>> {
     let (n, m) = (left.cells(), right.cells());
     let (left, right) = (Side::of(left), Side::of(right));
     let mut dropped = vec![None; n * m];
@@ -175,9 +176,10 @@ pub fn partings(left: &Book, right: &Book, c: usize) -> Vec<Option<Dropped>> {
                     Dropped { round, reason }
                 }
             };
+            let back = || parted(&right, &left, &columns, j, i, c);
             dropped[place] = parted(&left, &right, &rows, i, j, c)
                 .map(drop(true))
-                .or_else(|| parted(&right, &left, &columns, j, i, c).map(drop(false)));
+                .or_else(|| sides.from_right(back).map(drop(false)));
         }
         if dropped == before {
             break;

@@ -20,6 +20,8 @@ pub mod refusals;
 pub mod remade;
 pub mod shapes;
 pub mod sheets;
+pub mod sides;
+pub mod telling;
 pub mod versions;
 
 /// Writes the number of all bytes into the length field, bytes 0 to 3, as far as there are such bytes.

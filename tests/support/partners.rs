@@ -1,7 +1,8 @@
-//! Which cells of two books are matched: document 01, section "Partners", with every way of cells written out. Slow and plain on
-//! purpose: for books whose cells have few ways.
+//! Which cells of two books are matched, or covered where the clauses from left to right alone count: document 01, section "Partners",
+//! with every way of cells written out. Slow and plain on purpose: for books whose cells have few ways.
 
 use super::books::Book;
+use super::sides::Sides;
 
 /// A way of cells: the labels of its links in order, and the cells of its places, from the first to its end.
 #[derive(Clone)]
@@ -138,26 +139,37 @@ fn links_answered(
     })
 }
 
-/// The round in which each pair of cells (i, j) is dropped, at place i × m + j, or none: the matched pairs. All pairs are related
+/// The clauses hold for the pair (i, j) under a relation: from left to right and, where both sides count, "with the sides exchanged".
+fn clauses_hold(
+    left: &Side,
+    right: &Side,
+    sides: Sides,
+    (i, j): (usize, usize),
+    related: &impl Fn(usize, usize) -> bool,
+) -> bool {
+    let exchanged = |j: usize, i: usize| related(i, j);
+    let ahead =
+        ways_answered(left, right, i, j, related) && links_answered(left, right, i, j, related);
+    let back = || {
+        ways_answered(right, left, j, i, &exchanged)
+            && links_answered(right, left, j, i, &exchanged)
+    };
+    ahead && (sides == Sides::One || back())
+}
+
+/// The round in which each pair of cells (i, j) is dropped, at place i × m + j, or none: the pairs that stay. All pairs are related
 /// at first; a round drops those that break a clause under the relation that it began with, and the first round that drops none
-/// leaves a bisimulation. No bisimulation holds a pair that was dropped, so it is the greatest.
-pub fn rounds(left: &Book, right: &Book, c: usize) -> Vec<Option<usize>> {
+/// leaves one that keeps all clauses. None that does holds a pair that was dropped, so it is the greatest.
+pub fn rounds(left: &Book, right: &Book, c: usize, sides: Sides) -> Vec<Option<usize>> {
     let m = right.cells();
     let (left, right) = (Side::of(left, c), Side::of(right, c));
     let mut dropped = vec![None; left.book.cells() * m];
     for round in 1.. {
         let before = dropped.clone();
         let related = |i: usize, j: usize| before[i * m + j].is_none();
-        let exchanged = |j: usize, i: usize| related(i, j);
         for place in 0..before.len() {
             let (i, j) = (place / m, place % m);
-            let holds = || {
-                ways_answered(&left, &right, i, j, &related)
-                    && links_answered(&left, &right, i, j, &related)
-                    && ways_answered(&right, &left, j, i, &exchanged)
-                    && links_answered(&right, &left, j, i, &exchanged)
-            };
-            if related(i, j) && !holds() {
+            if related(i, j) && !clauses_hold(&left, &right, sides, (i, j), &related) {
                 dropped[place] = Some(round);
             }
         }
@@ -166,4 +178,22 @@ pub fn rounds(left: &Book, right: &Book, c: usize) -> Vec<Option<usize>> {
         }
     }
     dropped
+}
+
+/// "The greatest is the union of all": whether some relation that keeps all clauses holds each pair. Every relation is tried, so it is
+/// for few pairs.
+pub fn union_of_all(left: &Book, right: &Book, c: usize, sides: Sides) -> Vec<bool> {
+    let m = right.cells();
+    let places = left.cells() * m;
+    let (left, right) = (Side::of(left, c), Side::of(right, c));
+    let mut union = 0;
+    for relation in 0..1u32 << places {
+        let held = |place: &usize| relation >> place & 1 == 1;
+        let related = |i: usize, j: usize| held(&(i * m + j));
+        let holds = |place| clauses_hold(&left, &right, sides, (place / m, place % m), &related);
+        if (0..places).filter(held).all(holds) {
+            union |= relation;
+        }
+    }
+    (0..places).map(|place| union >> place & 1 == 1).collect()
 }

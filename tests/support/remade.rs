@@ -1,5 +1,5 @@
-//! Books made from others as a studio returns them: renumbered, split and joined; and books with other labels. Where it is said so, each
-//! cell has the one it comes from for a partner, at every bound.
+//! Books made from others as a studio returns them: renumbered, split, grown and joined; and books with other labels. Where it is said so,
+//! each cell has the one it comes from for a partner, or is covered by it, at every bound.
 
 use super::books::{link, Book, Link};
 use super::random::Random;
@@ -101,6 +101,25 @@ pub fn both(first: &Book, second: &Book) -> Book {
     Book {
         recordings: [&first.recordings[..], &second.recordings[..]].concat(),
         links: rising(first.links.iter().copied().chain(moved)),
+    }
+}
+
+/// The book with cells and links more, to and from any. Each cell is covered by itself, at every bound.
+pub fn grown(random: &mut Random, book: &Book, cells: usize, links: usize) -> Book {
+    let mut book = book.clone();
+    for _ in 0..cells {
+        let other = random.pick(&book.recordings);
+        book.recordings
+            .push(random.pick(&[other, other.wrapping_add(1)]));
+    }
+    let labels: Vec<u16> = book.labels().chain([0]).collect();
+    for _ in 0..links {
+        let [from, to] = [0; 2].map(|_: u8| random.below(book.cells()) as u8);
+        book.links.push(link(from, random.pick(&labels), to));
+    }
+    Book {
+        links: rising(book.links.into_iter()),
+        ..book
     }
 }
 

@@ -3,7 +3,7 @@
 use super::books::{chain, link, most_links, random_book, ring, Book};
 use super::partners::most_ways;
 use super::random::Random;
-use super::remade::{any_labels, both, damaged, joined, renumbered, split};
+use super::remade::{any_labels, both, damaged, grown, joined, renumbered, split};
 
 /// The naive comparison takes long where a cell has many ways.
 const MOST_WAYS: usize = 48;
@@ -17,7 +17,7 @@ pub struct Shape {
 /// The place of all that is of no shape, after those of `SHAPES`.
 pub const OTHERS: usize = SHAPES.len();
 
-pub const SHAPES: [Shape; 11] = [
+pub const SHAPES: [Shape; 12] = [
     Shape {
         name: "random",
         draw: |random, _| (any_book(random, 3), any_book(random, 3)),
@@ -61,6 +61,10 @@ pub const SHAPES: [Shape; 11] = [
             let other = split_book(random, &book);
             either_way(random, book, other)
         },
+    },
+    Shape {
+        name: "grown",
+        draw: grown_books,
     },
     Shape {
         name: "joined",
@@ -268,6 +272,19 @@ fn forks(random: &mut Random, bound: usize) -> (Book, Book) {
         other.recordings.swap(last as usize, last as usize + 1);
     }
     (renumbered(random, &book), renumbered(random, &other))
+}
+
+/// A book and one that offers more, often only by one link; sometimes the other way round.
+fn grown_books(random: &mut Random, _: usize) -> (Book, Book) {
+    let book = any_book(random, 2);
+    let cells = random.pick(&[0, 0, 1, 2]);
+    let links = random.between(1, 3);
+    let other = grown(random, &book, cells, links);
+    let other = renumbered(random, &other);
+    match random.one_in(4) {
+        true => (other, book),
+        false => (book, other),
+    }
 }
 
 /// Books of which parts, or cells, were put together.

@@ -168,6 +168,12 @@ impl Sheet {
         self.bytes(any_version(random, self.labels()))
     }
 
+    /// Some entry is a "not".
+    pub fn denies(&self) -> bool {
+        let mut entries = self.entries.iter();
+        entries.any(|entry| matches!(entry, Entry::Not(_)))
+    }
+
     /// The labels of the steps.
     pub fn labels(&self) -> impl Iterator<Item = u16> + '_ {
         self.entries

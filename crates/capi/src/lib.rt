@@ -5,6 +5,7 @@ ghost use Rattle.book.specs.Book.{bookAnswer, bookOutcome};
 ghost use Rattle.book.specs.BookLinks.{linksAnswer, linksOutcome};
 ghost use Rattle.sheet.specs.Sheet.{sheetAnswer, sheetOutcome};
 ghost use Rattle.truth.specs.Truth.{IsTruthCode, IsClaimCode};
+ghost use Rattle.theory.specs.Bisimulation.{oneSided, twoSided};
 ghost use Rattle.compare.specs.Compare.{lent, IsCompareCode};
 ghost use Rattle.answers.specs.Row.{rowAnswer, rowOutcome, wordIn};
 ghost use Rattle.answers.specs.Pair.{pairAnswer, pairOutcome};
@@ -38,9 +39,25 @@ pub extern "C" fn cuhnavel_compare(
     room: &mut [u8],
     scratch: &mut [u8],
 ) -> u64
-    ensures { λ r. ⌜ IsCompareCode (now (left .entry)) (now (right .entry)) bound (lent (now (map .entry)) (now (room .entry)) (now (scratch .entry))) r (lent (now (map .exit)) (now (room .exit)) (now (scratch .exit))) ⌝ }
+    ensures { λ r. ⌜ IsCompareCode twoSided (now (left .entry)) (now (right .entry)) bound (lent (now (map .entry)) (now (room .entry)) (now (scratch .entry))) r (lent (now (map .exit)) (now (room .exit)) (now (scratch .exit))) ⌝ }
 {
-    compare::compare_code(left, right, bound, map, room, scratch)
+    compare::compare_code(left, right, bound, true, map, room, scratch)
+}
+
+// Compare one-way: as Compare, with the clauses from left to right only. Place i × m + j of the map becomes 0 where right cell j covers left cell i, else the
+// number of a question without "not" that is true at i and false at j; the values are the sheet's length and the number of covered pairs.
+#[no_mangle]
+pub extern "C" fn cuhnavel_compare_one_way(
+    left: &[u8],
+    right: &[u8],
+    bound: usize,
+    map: &mut [u16],
+    room: &mut [u8],
+    scratch: &mut [u8],
+) -> u64
+    ensures { λ r. ⌜ IsCompareCode oneSided (now (left .entry)) (now (right .entry)) bound (lent (now (map .entry)) (now (room .entry)) (now (scratch .entry))) r (lent (now (map .exit)) (now (room .exit)) (now (scratch .exit))) ⌝ }
+{
+    compare::compare_code(left, right, bound, false, map, room, scratch)
 }
 
 // Truth: for each entry of the sheet the word of the book's cells where it is true; the other words, and on a refusal all, are as

@@ -1,4 +1,5 @@
 -- What each way out of Compare shows of the definitions of `specs/`, in the form in which `search` finds it.
+use mathlib.Core.Bool.{Bool}
 use mathlib.Core.List.{List, _++_}
 use mathlib.Core.Path.{_≡_, refl, sym, ap, ap₂, _∙_}
 use Prim.Native.Nat.{ℕ, _+_, _*_, _^_, _≤_, _<_}
@@ -8,6 +9,7 @@ use mir.Val.{Fits}
 use borrow.Author.Tests.{lt-ltb, le-ltb, eq-eqb, ne-eqb}
 use lib.ListN.{length, getD, drop, replicate, take-append-drop}
 use lib.Seq.{sets}
+use Rattle.theory.specs.Bisimulation.{sidesOf}
 use Rattle.outcome.specs.Outcome.{code}
 use Rattle.book.specs.Book.{cellsOf, bookRefusal}
 use Rattle.sheet.specs.Entry.{Entry}
@@ -36,8 +38,8 @@ lists-ext p q r = λ i. record { map = p i; room = q i; scratch = r i }
 
 -- ---- the sheet, once its header is written
 
-module _ {l r : List ℕ} {c : ℕ} {map : List ℕ} {room : List ℕ} (given : Lent l r c map room) {map′ filled : List ℕ} {pen : Pen}
-    (t : Fills l r c room filled pen map′) where
+module _ {both : Bool} {l r : List ℕ} {c : ℕ} {map : List ℕ} {room : List ℕ} (given : Lent l r c map room) {map′ filled : List ℕ} {pen : Pen}
+    (t : Fills both l r c room filled pen map′) where
   entries : List Entry
   entries = t .finished .entries
 
@@ -45,7 +47,7 @@ module _ {l r : List ℕ} {c : ℕ} {map : List ℕ} {room : List ℕ} (given : 
   unfolding entries
   held = rw (t .finished .version) at (t .finished .penned .held)
 
-  compared : Compared (settingOf l r c) entries map′
+  compared : Compared (settingOf (sidesOf both) l r c) entries map′
   unfolding entries
   compared = t .finished .compared
 
@@ -68,7 +70,7 @@ module _ {l r : List ℕ} {c : ℕ} {map : List ℕ} {room : List ℕ} (given : 
   header-room = omega (arith, held .inside, held .place)
 
   -- what is defined is what is there
-  sheet-is : sheetBytes (sheetVersion l r) c entries ≡ comparedSheet l r c
+  sheet-is : sheetBytes (sheetVersion l r) c entries ≡ comparedSheet (sidesOf both) l r c
   sheet-is = ap (sheetBytes (sheetVersion l r) c) (compared .entries)
 
   module _ {room′ : List ℕ} (w : room′ ≡ sets filled 0 (header (pen .version) (pen .at) c (pen .next))) where
@@ -77,7 +79,7 @@ module _ {l r : List ℕ} {c : ℕ} {map : List ℕ} {room : List ℕ} (given : 
     headed = w ∙ ap₂ (λ v n. sets filled 0 (header v (pen .at) c n)) (t .finished .version) (t .finished .penned .number)
 
     -- the room starts with the sheet, and what follows it is as it was
-    room-is : room′ ≡ comparedSheet l r c ++ drop (length (comparedSheet l r c)) room
+    room-is : room′ ≡ comparedSheet (sidesOf both) l r c ++ drop (length (comparedSheet (sidesOf both) l r c)) room
     room-is =
         sym (take-append-drop (pen .at) room′)
         ∙ ap₂ _++_ (holding-sheet held c headed) (sheet-kept-after held c headed (pen .at) (omega (arith, held .place)) ∙ t .behind .kept (pen .at) (omega arith))
@@ -85,10 +87,10 @@ module _ {l r : List ℕ} {c : ℕ} {map : List ℕ} {room : List ℕ} (given : 
 
     -- Compare has served the caller
     pub all-served : {scratch scratch′ : List ℕ} {count : ℕ} → scratchNeeded (pairsOf l r) ≤ length scratch → scratch′ ≡ replicate (length scratch) 0 → count ≡ zeros map′
-        → IsCompare l r c (lent map room scratch) (says.Compared (pen .at) count) (lent map′ room′ scratch′)
+        → IsCompare (sidesOf both) l r c (lent map room scratch) (says.Compared (pen .at) count) (lent map′ room′ scratch′)
     unfolding leftBy
     all-served h z n =
-        let told = accepts-compared l r c (length map) (length room) _ (length (comparedSheet l r c)) (zeros (comparedMap l r c)) (record {
+        let told = accepts-compared l r c (length map) (length room) _ (length (comparedSheet (sidesOf both) l r c)) (zeros (comparedMap (sidesOf both) l r c)) (record {
           bound = given .bound;
           left = given .leftAccepted;
           right = given .rightAccepted;
@@ -129,43 +131,43 @@ module _ (v size pairs : ℕ) (d : size ≡ stepWidth v * 8) (h : pairs ≤ 4096
 
 -- ---- what is declined
 
-module _ (l r : List ℕ) (c : ℕ) (b : Lists) where
-  declined : (a : CompareAnswer) → rightAnswer l r c b ≡ a → b ≡ leftBy l r c b a → IsCompare l r c b a b
+module _ (both : Bool) (l r : List ℕ) (c : ℕ) (b : Lists) where
+  declined : (a : CompareAnswer) → rightAnswer (sidesOf both) l r c b ≡ a → b ≡ leftBy (sidesOf both) l r c b a → IsCompare (sidesOf both) l r c b a b
   declined a e k = record { answer = sym e; lists = rw e k }
 
-  pub bound-above : mostBound < c → IsCompare l r c b says.BoundAbove b
+  pub bound-above : mostBound < c → IsCompare (sidesOf both) l r c b says.BoundAbove b
   unfolding compareAnswer leftBy
   bound-above h = declined says.BoundAbove (simp (lt-ltb mostBound c h)) refl
 
   module _ (low : c ≤ mostBound) where
-    pub left-refused : (refusal : ℕ) → refusal ≡ bookRefusal l → (refusal ≡ 0 → ⊥) → IsCompare l r c b (says.LeftRefused refusal) b
+    pub left-refused : (refusal : ℕ) → refusal ≡ bookRefusal l → (refusal ≡ 0 → ⊥) → IsCompare (sidesOf both) l r c b (says.LeftRefused refusal) b
     unfolding compareAnswer leftBy
     left-refused refusal e f = rw e (declined (says.LeftRefused (bookRefusal l)) (simp (le-ltb mostBound c low, ne-eqb (bookRefusal l) 0 (rw e at f))) refl)
 
     -- none of the left book
     pub right-refused : (none refusal : ℕ) → none ≡ bookRefusal l → none ≡ 0 → refusal ≡ bookRefusal r → (refusal ≡ 0 → ⊥)
-        → IsCompare l r c b (says.RightRefused refusal) b
+        → IsCompare (sidesOf both) l r c b (says.RightRefused refusal) b
     unfolding compareAnswer leftBy
     right-refused none refusal d z e f =
         rw e (declined (says.RightRefused (bookRefusal r)) (simp (le-ltb mostBound c low, eq-eqb (bookRefusal l) 0 (sym d ∙ z), ne-eqb (bookRefusal r) 0 (rw e at f))) refl)
 
     module _ (left : bookRefusal l ≡ 0) (right : bookRefusal r ≡ 0) (n m : ℕ) (d : n ≡ cellsOf l) (e : m ≡ cellsOf r) where
       -- what is lent is judged by the number of pairs
-      lent-declined : (a : CompareAnswer) → lentAnswer (sheetVersion l r) (n * m) (length (b .map)) (length (b .room)) (length (b .scratch)) (length (comparedSheet l r c)) (zeros (comparedMap l r c)) ≡ a
-          → b ≡ leftBy l r c b a → IsCompare l r c b a b
+      lent-declined : (a : CompareAnswer) → lentAnswer (sheetVersion l r) (n * m) (length (b .map)) (length (b .room)) (length (b .scratch)) (length (comparedSheet (sidesOf both) l r c)) (zeros (comparedMap (sidesOf both) l r c)) ≡ a
+          → b ≡ leftBy (sidesOf both) l r c b a → IsCompare (sidesOf both) l r c b a b
       lent-declined a k = declined a (books-accepted l r c _ _ _ _ _ low left right ∙ rw (d, e) at k)
 
-      pub map-length : (length (b .map) ≡ n * m → ⊥) → IsCompare l r c b says.MapLength b
+      pub map-length : (length (b .map) ≡ n * m → ⊥) → IsCompare (sidesOf both) l r c b says.MapLength b
       unfolding lentAnswer leftBy
       map-length f = lent-declined says.MapLength (simp (ne-eqb (length (b .map)) (n * m) f)) refl
 
       module _ (places : length (b .map) ≡ n * m) (v needed : ℕ) (dv : v ≡ sheetVersion l r) (k : needed ≡ roomNeeded v (n * m)) where
-        pub few-room : length (b .room) < needed → IsCompare l r c b says.FewRoom b
+        pub few-room : length (b .room) < needed → IsCompare (sidesOf both) l r c b says.FewRoom b
         unfolding lentAnswer leftBy
         few-room h = lent-declined says.FewRoom (simp (eq-eqb (length (b .map)) (n * m) places, lt-ltb (length (b .room)) (roomNeeded (sheetVersion l r) (n * m)) (rw (k, dv) at h))) refl
 
         module _ (roomy : needed ≤ length (b .room)) where
-          pub few-scratch : length (b .scratch) < scratchNeeded (n * m) → IsCompare l r c b says.FewScratch b
+          pub few-scratch : length (b .scratch) < scratchNeeded (n * m) → IsCompare (sidesOf both) l r c b says.FewScratch b
           unfolding lentAnswer leftBy
           few-scratch h =
               lent-declined says.FewScratch
@@ -185,16 +187,16 @@ module _ (a : CompareAnswer) (sheet count : ℕ) (d : a ≡ says.Compared sheet 
   pub count-bits : compareOutcome a .second < 2 ^ 24 → count < 2 ^ 24
   count-bits h = rw d at h
 
-module _ (l r : List ℕ) (c : ℕ) (before now : Lists) (a : CompareAnswer) (t : IsCompare l r c before a now) where
+module _ (both : Bool) (l r : List ℕ) (c : ℕ) (before now : Lists) (a : CompareAnswer) (t : IsCompare (sidesOf both) l r c before a now) where
   module _ (bl : (i : ℕ) → Fits w8 (getD l i 0)) (br : (i : ℕ) → Fits w8 (getD r i 0)) where
     -- the values of an answer
-    values : (x : CompareAnswer) → x ≡ rightAnswer l r c before → (compareOutcome x .first < 2 ^ 24) × (compareOutcome x .second < 2 ^ 24)
+    values : (x : CompareAnswer) → x ≡ rightAnswer (sidesOf both) l r c before → (compareOutcome x .first < 2 ^ 24) × (compareOutcome x .second < 2 ^ 24)
     values (says.Compared sheet count) e =
         let (g, d, n) = compared-accepts l r c _ _ _ _ _ sheet count e in
         let books : Given l r c =
         record { bytes = (record { each = λ i. bl i .fits }, record { each = λ i. br i .fits }); left = g .left; right = g .right; bound = g .bound } in
         let most = pairs-most l r (g .left) (g .right) in
-        (omega (arith, d, sheet-fits books, room-most (sheetVersion l r) _ 4096 most), omega (arith, n, zeros-nonzeros (comparedMap l r c), map-places books))
+        (omega (arith, d, sheet-fits (sidesOf both) books, room-most (sheetVersion l r) _ 4096 most), omega (arith, n, zeros-nonzeros (comparedMap (sidesOf both) l r c), map-places (sidesOf both) books))
     values says.BoundAbove e = (omega arith, omega arith)
     values (says.LeftRefused refusal) e = (omega arith, omega arith)
     values (says.RightRefused refusal) e = (omega arith, omega arith)
@@ -208,5 +210,5 @@ module _ (l r : List ℕ) (c : ℕ) (before now : Lists) (a : CompareAnswer) (t 
     pub second-small : compareOutcome a .second < 2 ^ 24
     second-small = values a (t .answer) .1
 
-  pub compare-coded : (v : ℕ) → v ≡ code (compareOutcome a) → IsCompareCode l r c before v now
+  pub compare-coded : (v : ℕ) → v ≡ code (compareOutcome a) → IsCompareCode (sidesOf both) l r c before v now
   compare-coded v e = record { answer = e ∙ ap (λ a. code (compareOutcome a)) (t .answer); lists = t .lists }

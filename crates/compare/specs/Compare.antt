@@ -1,10 +1,12 @@
--- Compare (01, "The operations and when they decline").
+-- Compare (01, "The operations and when they decline"), of both sides, or one-way, of the left one alone (02, 2026-03: "Limits, order and results are those of
+-- Compare, with 0 for covered").
 use mathlib.Core.Bool.{not, cond}
 use mathlib.Core.List.{List, _++_}
 use mathlib.Core.Path.{_≡_}
 use Prim.Native.Nat.{ℕ, _*_, _≤_}
 use lib.Dec.{eqb, ltb}
 use lib.ListN.{length, drop, replicate}
+use Rattle.theory.specs.Bisimulation.{Sides}
 use Rattle.outcome.specs.Outcome.{Outcome, accepted, refused, ofCall, ofLeftBook, ofRightBook, code}
 use Rattle.book.specs.Book.{cellsOf, bookRefusal}
 use Rattle.sheet.specs.Sheet.{mostBound}
@@ -60,17 +62,17 @@ compareOutcome says.MapLength = refused ofCall 21
 compareOutcome says.FewRoom = refused ofCall 22
 compareOutcome says.FewScratch = refused ofCall 23
 
--- What Compare computes: the state that the definition of the comparison ends in, of the two books' setting.
-abbrev pub compared : List ℕ → List ℕ → ℕ → State
-compared l r c = comparison (settingOf l r c)
+-- What Compare computes: the state that the definition of the comparison ends in, of the two books' setting where the sides x count.
+abbrev pub compared : Sides → List ℕ → List ℕ → ℕ → State
+compared x l r c = comparison (settingOf x l r c)
 
 -- The map: "place i × m + j is 0 if left i and right j are matched, else the entry of a question that parts them".
-abbrev pub comparedMap : List ℕ → List ℕ → ℕ → List ℕ
-comparedMap l r c = compared l r c .map
+abbrev pub comparedMap : Sides → List ℕ → List ℕ → ℕ → List ℕ
+comparedMap x l r c = compared x l r c .map
 
 -- The sheet that has these questions.
-abbrev pub comparedSheet : List ℕ → List ℕ → ℕ → List ℕ
-comparedSheet l r c = sheetBytes (sheetVersion l r) c (compared l r c .entries)
+abbrev pub comparedSheet : Sides → List ℕ → List ℕ → ℕ → List ℕ
+comparedSheet x l r c = sheetBytes (sheetVersion l r) c (compared x l r c .entries)
 
 -- The lists as lent at entry, and at exit.
 pub record Lists : Type 0 where
@@ -79,39 +81,39 @@ pub record Lists : Type 0 where
   pub scratch : List ℕ
 
 -- The right answer for what is lent: "the answer holds the sheet's length and the number of zeros in the map".
-abbrev pub rightAnswer : List ℕ → List ℕ → ℕ → Lists → CompareAnswer
-rightAnswer l r c before =
-    compareAnswer l r c (length (before .map)) (length (before .room)) (length (before .scratch)) (length (comparedSheet l r c)) (zeros (comparedMap l r c))
+abbrev pub rightAnswer : Sides → List ℕ → List ℕ → ℕ → Lists → CompareAnswer
+rightAnswer x l r c before =
+    compareAnswer l r c (length (before .map)) (length (before .room)) (length (before .scratch)) (length (comparedSheet x l r c)) (zeros (comparedMap x l r c))
 
 -- What an answer leaves. "The sheet starts the room; bytes after it are unchanged. Lent scratch ends as zeros." And "a refusal is a number; buffers stay
 -- untouched".
-unfoldable pub leftBy : List ℕ → List ℕ → ℕ → Lists → CompareAnswer → Lists
-leftBy l r c before (says.Compared sheet count) =
+unfoldable pub leftBy : Sides → List ℕ → List ℕ → ℕ → Lists → CompareAnswer → Lists
+leftBy x l r c before (says.Compared sheet count) =
     record {
-      map = comparedMap l r c;
-      room = comparedSheet l r c ++ drop (length (comparedSheet l r c)) (before .room);
+      map = comparedMap x l r c;
+      room = comparedSheet x l r c ++ drop (length (comparedSheet x l r c)) (before .room);
       scratch = replicate (length (before .scratch)) 0;
     }
-leftBy l r c before says.BoundAbove = before
-leftBy l r c before (says.LeftRefused refusal) = before
-leftBy l r c before (says.RightRefused refusal) = before
-leftBy l r c before says.MapLength = before
-leftBy l r c before says.FewRoom = before
-leftBy l r c before says.FewScratch = before
+leftBy x l r c before says.BoundAbove = before
+leftBy x l r c before (says.LeftRefused refusal) = before
+leftBy x l r c before (says.RightRefused refusal) = before
+leftBy x l r c before says.MapLength = before
+leftBy x l r c before says.FewRoom = before
+leftBy x l r c before says.FewScratch = before
 
 -- Compare's promise, of an answer that is told as `tell` says: the answer and the lists at exit are these, to the last byte.
-pub record Compares {A : Type 0} (tell : CompareAnswer → A) (l r : List ℕ) (c : ℕ) (before : Lists) (a : A) (now : Lists) : Type 0 where
-  pub answer : a ≡ tell (rightAnswer l r c before)
-  pub lists : now ≡ leftBy l r c before (rightAnswer l r c before)
+pub record Compares {A : Type 0} (tell : CompareAnswer → A) (x : Sides) (l r : List ℕ) (c : ℕ) (before : Lists) (a : A) (now : Lists) : Type 0 where
+  pub answer : a ≡ tell (rightAnswer x l r c before)
+  pub lists : now ≡ leftBy x l r c before (rightAnswer x l r c before)
 
 -- The lists of a call.
 abbrev pub lent : List ℕ → List ℕ → List ℕ → Lists
 lent map room scratch = record { map = map; room = room; scratch = scratch }
 
--- Compare of the books l and r for the bound c: its answer a, and the lists at exit.
-abbrev pub IsCompare : List ℕ → List ℕ → ℕ → Lists → CompareAnswer → Lists → Type 0
+-- Compare of the books l and r for the bound c, where the sides x count: its answer a, and the lists at exit.
+abbrev pub IsCompare : Sides → List ℕ → List ℕ → ℕ → Lists → CompareAnswer → Lists → Type 0
 IsCompare = Compares (λ a. a)
 
 -- The same, with the answer as one number.
-abbrev pub IsCompareCode : List ℕ → List ℕ → ℕ → Lists → ℕ → Lists → Type 0
+abbrev pub IsCompareCode : Sides → List ℕ → List ℕ → ℕ → Lists → ℕ → Lists → Type 0
 IsCompareCode = Compares (λ a. code (compareOutcome a))

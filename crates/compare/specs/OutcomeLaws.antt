@@ -1,7 +1,7 @@
 -- What Compare answers has room in an outcome's bits.
 use mathlib.Core.Bool.{not}
 use mathlib.Core.List.{List}
-use Prim.Native.Nat.{ℕ, _+_, _*_}
+use Prim.Native.Nat.{ℕ, _*_}
 use native.Mathlib.Omega.{arith}
 use borrow.Author.Tests.{ltb-false, eqb-true, not-false}
 use lib.Dec.{eqb, ltb}
@@ -10,6 +10,7 @@ use Rattle.fields.specs.Fields.{Bytes}
 use Rattle.outcome.specs.Outcome.{Fits, ofCall, ofLeftBook, ofRightBook}
 use Rattle.outcome.specs.OutcomeLaws.{accepted-fits, refused-fits}
 use Rattle.outcome.specs.RefusalLaws.{either}
+use Rattle.theory.specs.Bisimulation.{Sides}
 use Rattle.book.specs.Book.{bookRefusal}
 use Rattle.book.specs.OutcomeLaws.{book-refusal-most}
 use Rattle.compare_laws.specs.Room.{roomNeeded}
@@ -22,9 +23,9 @@ use Rattle.compare.specs.Laws.{room-most, pairs-most}
 use Rattle.compare.specs.Promises.{Given, map-places, sheet-fits}
 
 -- Compare: the sheet's length and the number of zeros; 20, the refusal of a book, or 21 to 23.
-pub compare-fits : (l r : List ℕ) (c : ℕ) (before : Lists) → Bytes l × Bytes r → Fits (compareOutcome (rightAnswer l r c before))
+pub compare-fits : (x : Sides) (l r : List ℕ) (c : ℕ) (before : Lists) → Bytes l × Bytes r → Fits (compareOutcome (rightAnswer x l r c before))
 unfolding compareAnswer lentAnswer
-compare-fits l r c before bytes =
+compare-fits x l r c before bytes =
     let P : CompareAnswer → Type 0 = λ a. Fits (compareOutcome a) in
     let pairs = pairsOf l r in
     either P (ltb 4 c) (λ _. refused-fits ofCall 20 (omega arith) (omega arith)) (λ bound.
@@ -36,5 +37,5 @@ compare-fits l r c before bytes =
     let books : Given l r c =
     record { bytes = bytes; left = eqb-true _ _ (not-false _ left); right = eqb-true _ _ (not-false _ right); bound = ltb-false 4 c bound } in
     let most = pairs-most l r (books .left) (books .right) in
-    accepted-fits (length (comparedSheet l r c)) (zeros (comparedMap l r c))
-    (omega (arith, sheet-fits books, room-most (sheetVersion l r) pairs 4096 most)) (omega (arith, zeros-nonzeros (comparedMap l r c), map-places books))))))))
+    accepted-fits (length (comparedSheet x l r c)) (zeros (comparedMap x l r c))
+    (omega (arith, sheet-fits x books, room-most (sheetVersion l r) pairs 4096 most)) (omega (arith, zeros-nonzeros (comparedMap x l r c), map-places x books))))))))

@@ -1,4 +1,5 @@
 -- What 01 says of the map and the sheet, as theorems about their definition: for accepted books and a bound of at most 4, whatever code computes them.
+use mathlib.Core.Bool.{true}
 use mathlib.Core.List.{List, _++_}
 use mathlib.Core.Logic.{_↔_, _≢_}
 use mathlib.Core.Path.{_≡_, refl, sym, ap, ap₂, _∙_}
@@ -12,7 +13,7 @@ use Rattle.theory.specs.Graph.{Graph}
 use Rattle.theory.specs.Expression.{NodeExpr}
 use Rattle.theory.specs.Meaning.{holds}
 use Rattle.theory.specs.Bound.{Within}
-use Rattle.theory.specs.Bisimulation.{twoSided, Greatest}
+use Rattle.theory.specs.Bisimulation.{Sides, twoSided, Spoken, Greatest}
 use Rattle.theory.specs.Rounds.{matched}
 use Rattle.book.specs.Book.{cellsOf, bookRefusal}
 use Rattle.book.specs.BookGraph.{graphOf}
@@ -22,7 +23,6 @@ use Rattle.sheet.specs.Sheet.{mostBound, lengthOf, countOf, sheetAnswer}
 use Rattle.sheet.specs.PassedLaws.{accepted-head}
 use Rattle.sheet.specs.WrittenLaws.{Writable, written-good, written-answer, written-count, written-question}
 use Rattle.sheet.specs.declared.SheetAnswer.the-variants.{Accepted}
-use Rattle.sheet.specs.Encoding.{sheetBytes}
 use Rattle.compare_laws.specs.Setting.{Setting}
 use Rattle.compare_laws.specs.Room.{roomNeeded}
 use Rattle.compare_laws.specs.Comparison.{comparison}
@@ -30,11 +30,11 @@ use Rattle.compare_laws.specs.Places.{placed}
 use Rattle.compare_laws.specs.Refining.{Comparable, Compared}
 use Rattle.compare_laws.specs.DefinedLaws.{comparison-compared, comparison-any}
 use Rattle.compare_laws.specs.Places.{zeroPairs}
-use Rattle.compare_laws.specs.Theorems.{zeroPairs-settled, zeroPairs-greatest, zero-agrees, nonzero-simplest, compared-writable, compared-room}
+use Rattle.compare_laws.specs.Theorems.{zeroPairs-settled, zeroPairs-greatest, zero-keeps as place-keeps, zero-agrees, nonzero-simplest, compared-writable, compared-room}
 use Rattle.compare_lists.specs.BookSetting.{sheetVersion, settingOf}
 use Rattle.compare_lists.specs.Laws.{books-comparable}
 use Rattle.compare.specs.Compare.{pairsOf, compared, comparedMap, comparedSheet}
-use Rattle.compare.specs.Parted.{PartedBy}
+use Rattle.compare.specs.Parted.{PartedBy, ToldBy}
 
 -- The books are accepted (and are bytes, as all that is lent), and the bound is at most 4.
 pub record Given (l r : List ℕ) (c : ℕ) : Type 0 where
@@ -43,67 +43,92 @@ pub record Given (l r : List ℕ) (c : ℕ) : Type 0 where
   pub right : bookRefusal r ≡ 0
   pub bound : c ≤ mostBound
 
-module _ {l r : List ℕ} {c : ℕ} (g : Given l r c) where
-  comparable : Comparable (settingOf l r c)
-  comparable = books-comparable l r c (g .bytes .0) (g .bytes .1) (g .left) (g .right) (g .bound)
+module _ (x : Sides) {l r : List ℕ} {c : ℕ} (g : Given l r c) where
+  comparable : Comparable (settingOf x l r c)
+  comparable = books-comparable x l r c (g .bytes .0) (g .bytes .1) (g .left) (g .right) (g .bound)
 
-  done : Compared (settingOf l r c) (compared l r c .entries) (comparedMap l r c)
+  done : Compared (settingOf x l r c) (compared x l r c .entries) (comparedMap x l r c)
   done = comparison-compared comparable
 
-  writable : Writable (sheetVersion l r) c (compared l r c .entries)
+  writable : Writable (sheetVersion l r) c (compared x l r c .entries)
   writable = compared-writable comparable done
 
   -- a place for each pair
-  pub map-places : length (comparedMap l r c) ≡ pairsOf l r
+  pub map-places : length (comparedMap x l r c) ≡ pairsOf l r
   map-places = done .size
 
   -- "The sheet is accepted by its check, has bound c,"
-  pub sheet-accepted : sheetAnswer (comparedSheet l r c) ≡ Accepted (countOf (comparedSheet l r c)) c
+  pub sheet-accepted : sheetAnswer (comparedSheet x l r c) ≡ Accepted (countOf (comparedSheet x l r c)) c
   sheet-accepted = written-answer writable ∙ ap (λ q. Accepted q c) (sym (written-count writable))
 
   -- has room in the bytes that are asked for,
-  pub sheet-fits : length (comparedSheet l r c) ≤ roomNeeded (sheetVersion l r) (pairsOf l r)
+  pub sheet-fits : length (comparedSheet x l r c) ≤ roomNeeded (sheetVersion l r) (pairsOf l r)
   sheet-fits = compared-room comparable done
 
   -- "and starts the room": it is found there by the length that it says.
-  pub sheet-found : (rest : List ℕ) → take (lengthOf (comparedSheet l r c ++ rest)) (comparedSheet l r c ++ rest) ≡ comparedSheet l r c
+  pub sheet-found : (rest : List ℕ) → take (lengthOf (comparedSheet x l r c ++ rest)) (comparedSheet x l r c ++ rest) ≡ comparedSheet x l r c
   sheet-found rest =
-      let s = comparedSheet l r c in
+      let s = comparedSheet x l r c in
       let h = accepted-head s (written-good writable) in
       let e : lengthOf (s ++ rest) ≡ length s = field-append-left 4 s rest 0 (let k = h .eight in omega arith) ∙ h .whole in
       ap (λ n. take n (s ++ rest)) e ∙ take-at s rest (length s) refl
 
-  -- Demand 2: the pairs whose place holds 0 are the matched ones, which are the greatest bisimulation for the bound.
-  pub zeros-matched : zeroPairs (graphOf l) (graphOf r) (comparedMap l r c) ≡ matched (graphOf l) (graphOf r) c
-  zeros-matched = zeroPairs-settled comparable done
-
-  pub zeros-greatest : Greatest twoSided (graphOf l) (graphOf r) c (zeroPairs (graphOf l) (graphOf r) (comparedMap l r c))
+  -- Demand 2: the pairs whose place holds 0 are the greatest bisimulation for the bound, or one-sided the greatest simulation;
+  pub zeros-greatest : Greatest x (graphOf l) (graphOf r) c (zeroPairs (graphOf l) (graphOf r) (comparedMap x l r c))
   zeros-greatest = zeroPairs-greatest comparable done
 
   module _ (i j : ℕ) (o : i < cellsOf l) (u : j < cellsOf r) where
+    -- a place holds 0 exactly when every question within the bound (one-sided, without "not") that is true at the left cell is true at the right one.
+    pub zero-keeps : (placed (cellsOf r) (comparedMap x l r c) i j ≡ 0) ↔ ((q : NodeExpr) → Within c q → Spoken x q → holds (graphOf l) q i ≡ true → holds (graphOf r) q j ≡ true)
+    zero-keeps = place-keeps comparable done i j o u
+
+    -- Another number is that of a question of the sheet that is true at the left cell and false at the right one, than which none is less deep.
+    pub nonzero-tells : placed (cellsOf r) (comparedMap x l r c) i j ≢ 0 → ToldBy x l r c (comparedSheet x l r c) i j (placed (cellsOf r) (comparedMap x l r c) i j)
+    nonzero-tells e =
+        let k = placed (cellsOf r) (comparedMap x l r c) i j in
+        let same = written-question writable k in
+        let p = done .parts i j o u e in
+        record {
+          named = rw (written-count writable) (done .number i j o u e);
+          within = rw same (p .within);
+          spoken = rw same (p .spoken);
+          left = rw same (p .left);
+          right = rw same (p .right);
+          shallow = rw same (p .shallow);
+          least = rw same (done .least i j o u e);
+        }
+
+module _ {l r : List ℕ} {c : ℕ} (g : Given l r c) where
+  -- Two-sided the pairs whose place holds 0 are the matched ones.
+  pub zeros-matched : zeroPairs (graphOf l) (graphOf r) (comparedMap twoSided l r c) ≡ matched (graphOf l) (graphOf r) c
+  zeros-matched = zeroPairs-settled (comparable twoSided g) (done twoSided g)
+
+  module _ (i j : ℕ) (o : i < cellsOf l) (u : j < cellsOf r) where
     -- Demand 3: a place holds 0 exactly when every question within the bound, of any size, is true at both cells or false at both;
-    pub zero-exactly : (placed (cellsOf r) (comparedMap l r c) i j ≡ 0) ↔ ((q : NodeExpr) → Within c q → holds (graphOf l) q i ≡ holds (graphOf r) q j)
-    zero-exactly = zero-agrees comparable done i j o u
+    pub zero-exactly : (placed (cellsOf r) (comparedMap twoSided l r c) i j ≡ 0) ↔ ((q : NodeExpr) → Within c q → holds (graphOf l) q i ≡ holds (graphOf r) q j)
+    zero-exactly = zero-agrees (comparable twoSided g) refl (done twoSided g) i j o u
 
     -- another number is that of a question of the sheet that parts its pair.
-    pub nonzero-parts : placed (cellsOf r) (comparedMap l r c) i j ≢ 0 → PartedBy l r c (comparedSheet l r c) i j (placed (cellsOf r) (comparedMap l r c) i j)
+    pub nonzero-parts : placed (cellsOf r) (comparedMap twoSided l r c) i j ≢ 0
+        → PartedBy l r c (comparedSheet twoSided l r c) i j (placed (cellsOf r) (comparedMap twoSided l r c) i j)
     nonzero-parts e =
-        let (n, d, s) = nonzero-simplest comparable done i j o u e in
-        let same = written-question writable (placed (cellsOf r) (comparedMap l r c) i j) in
-        record { named = rw (written-count writable) n; simplest = rw same s; shallow = rw same d }
+        let (n, d, s) = nonzero-simplest (comparable twoSided g) refl (done twoSided g) i j o u e in
+        let w = writable twoSided g in
+        let same = written-question w (placed (cellsOf r) (comparedMap twoSided l r c) i j) in
+        record { named = rw (written-count w) n; simplest = rw same s; shallow = rw same d }
 
 -- Books that are one graph each are compared alike: the same places and the same entries, in whatever versions the books and the sheet are written.
-pub compared-alike : (l l′ r r′ : List ℕ) (c : ℕ) → graphOf l ≡ graphOf l′ → graphOf r ≡ graphOf r′
-    → (comparedMap l r c ≡ comparedMap l′ r′ c) × (compared l r c .entries ≡ compared l′ r′ c .entries)
-compared-alike l l′ r r′ c e f = (ap (λ s. s .map) state, ap (λ s. s .entries) state)
+pub compared-alike : (x : Sides) (l l′ r r′ : List ℕ) (c : ℕ) → graphOf l ≡ graphOf l′ → graphOf r ≡ graphOf r′
+    → (comparedMap x l r c ≡ comparedMap x l′ r′ c) × (compared x l r c .entries ≡ compared x l′ r′ c .entries)
+compared-alike x l l′ r r′ c e f = (ap (λ s. s .map) state, ap (λ s. s .entries) state)
   where
     both : ℕ → Graph → Graph → Setting
-    both v g h = record { left = g; right = h; sides = twoSided; bound = c; version = v }
+    both v g h = record { left = g; right = h; sides = x; bound = c; version = v }
 
-    state : compared l r c ≡ compared l′ r′ c
-    state = comparison-any (settingOf l r c) (sheetVersion l′ r′) ∙ ap₂ (λ g h. comparison (both (sheetVersion l′ r′) g h)) e f
+    state : compared x l r c ≡ compared x l′ r′ c
+    state = comparison-any (settingOf x l r c) (sheetVersion l′ r′) ∙ ap₂ (λ g h. comparison (both (sheetVersion l′ r′) g h)) e f
 
 -- So are books with the same cells and links, of one version or of two: they are one graph each.
-pub contents-alike : (l l′ r r′ : List ℕ) (c : ℕ) → SameContents l l′ → SameContents r r′
-    → (comparedMap l r c ≡ comparedMap l′ r′ c) × (compared l r c .entries ≡ compared l′ r′ c .entries)
-contents-alike l l′ r r′ c d e = compared-alike l l′ r r′ c (same-graph l l′ d) (same-graph r r′ e)
+pub contents-alike : (x : Sides) (l l′ r r′ : List ℕ) (c : ℕ) → SameContents l l′ → SameContents r r′
+    → (comparedMap x l r c ≡ comparedMap x l′ r′ c) × (compared x l r c .entries ≡ compared x l′ r′ c .entries)
+contents-alike x l l′ r r′ c d e = compared-alike x l l′ r r′ c (same-graph l l′ d) (same-graph r r′ e)

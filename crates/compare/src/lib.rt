@@ -1,7 +1,8 @@
-// Compare (01): two books, pair by pair of their cells.
+// Compare (01): two books, pair by pair of their cells; of both sides, or one-way, of the left one alone (02, 2026-03).
 ghost use mathlib.Core.Path.{_≡_};
 ghost use Prim.Native.Nat.{_^_, _≤_, _<_};
 ghost use lib.ListN.{length};
+ghost use Rattle.theory.specs.Bisimulation.{sidesOf};
 ghost use Rattle.outcome.specs.Outcome.{code};
 ghost use Rattle.book.specs.Book.{bookRefusal};
 ghost use Rattle.sheet.specs.Sheet.{mostBound};
@@ -42,14 +43,15 @@ fn served(
     left: &[u8],
     right: &[u8],
     bound: u8,
+    both: bool,
     map: &mut [u16],
     room: &mut [u8],
     scratch: &mut [u8],
 ) -> CompareAnswer
     requires { ⌜ Lent (now left) (now right) bound (now map) (now room) × (scratchNeeded (pairsOf (now left) (now right)) ≤ length (now scratch)) ⌝ }
-    ensures { λ r. ⌜ IsCompare (now (left .entry)) (now (right .entry)) bound (lent (now (map .entry)) (now (room .entry)) (now (scratch .entry))) r (lent (now (map .exit)) (now (room .exit)) (now (scratch .exit))) ⌝ }
+    ensures { λ r. ⌜ IsCompare (sidesOf both) (now (left .entry)) (now (right .entry)) bound (lent (now (map .entry)) (now (room .entry)) (now (scratch .entry))) r (lent (now (map .exit)) (now (room .exit)) (now (scratch .exit))) ⌝ }
 {
-    let pen = compare_lists::fill(left, right, bound, map, room);
+    let pen = compare_lists::fill(left, right, bound, both, map, room);
     let at = pen.at;
     sheet_writer::put_header(room, pen.version, at as u32, bound, pen.next);
     compare_map::clear_bytes(scratch);
@@ -74,12 +76,13 @@ fn measured(
     left: &[u8],
     right: &[u8],
     bound: u8,
+    both: bool,
     map: &mut [u16],
     room: &mut [u8],
     scratch: &mut [u8],
 ) -> CompareAnswer
     requires { ⌜ (bookRefusal (now left) ≡ 0) × (bookRefusal (now right) ≡ 0) × (bound ≤ mostBound) ⌝ }
-    ensures { λ r. ⌜ IsCompare (now (left .entry)) (now (right .entry)) bound (lent (now (map .entry)) (now (room .entry)) (now (scratch .entry))) r (lent (now (map .exit)) (now (room .exit)) (now (scratch .exit))) ⌝ }
+    ensures { λ r. ⌜ IsCompare (sidesOf both) (now (left .entry)) (now (right .entry)) bound (lent (now (map .entry)) (now (room .entry)) (now (scratch .entry))) r (lent (now (map .exit)) (now (room .exit)) (now (scratch .exit))) ⌝ }
 {
     let pairs = book::cells_of(left) * book::cells_of(right);
     if map.len() != pairs {
@@ -92,22 +95,23 @@ fn measured(
     if scratch.len() < SCRATCH_A_PAIR * pairs {
         return CompareAnswer::FewScratch;
     }
-    served(left, right, bound, map, room, scratch)
+    served(left, right, bound, both, map, room, scratch)
 }
 
-// Compare: for each left cell i and right cell j of m, place i × m + j of the map becomes 0 where the two are matched, else the number of a question
-// that parts them; the room starts with the sheet of these questions, and the scratch becomes zeros. Refused, all lists being as before: 20 where the
+// Compare: for each left cell i and right cell j of m, place i × m + j of the map becomes 0 where the two are matched (or where `both` is false, where j
+// covers i), else the number of a question that parts them; the room starts with the sheet of these questions, and the scratch becomes zeros. Refused, all lists being as before: 20 where the
 // bound is above 4, the left book's refusal, the right book's, 21 where the map has not one place a pair, 22 where the room is below
 // 10 + 44 bytes a pair (52 where a book is of version 2), 23 where the scratch is below 16 bytes a pair.
 pub fn compare(
     left: &[u8],
     right: &[u8],
     bound: usize,
+    both: bool,
     map: &mut [u16],
     room: &mut [u8],
     scratch: &mut [u8],
 ) -> CompareAnswer
-    ensures { λ r. ⌜ IsCompare (now (left .entry)) (now (right .entry)) bound (lent (now (map .entry)) (now (room .entry)) (now (scratch .entry))) r (lent (now (map .exit)) (now (room .exit)) (now (scratch .exit))) ⌝ }
+    ensures { λ r. ⌜ IsCompare (sidesOf both) (now (left .entry)) (now (right .entry)) bound (lent (now (map .entry)) (now (room .entry)) (now (scratch .entry))) r (lent (now (map .exit)) (now (room .exit)) (now (scratch .exit))) ⌝ }
 {
     if MOST_BOUND < bound {
         return CompareAnswer::BoundAbove;
@@ -120,7 +124,7 @@ pub fn compare(
     if refusal != 0 {
         return CompareAnswer::RightRefused(refusal);
     }
-    measured(left, right, bound as u8, map, room, scratch)
+    measured(left, right, bound as u8, both, map, room, scratch)
 }
 
 // The answer as one number.
@@ -144,12 +148,13 @@ pub fn compare_code(
     left: &[u8],
     right: &[u8],
     bound: usize,
+    both: bool,
     map: &mut [u16],
     room: &mut [u8],
     scratch: &mut [u8],
 ) -> u64
-    ensures { λ r. ⌜ IsCompareCode (now (left .entry)) (now (right .entry)) bound (lent (now (map .entry)) (now (room .entry)) (now (scratch .entry))) r (lent (now (map .exit)) (now (room .exit)) (now (scratch .exit))) ⌝ }
+    ensures { λ r. ⌜ IsCompareCode (sidesOf both) (now (left .entry)) (now (right .entry)) bound (lent (now (map .entry)) (now (room .entry)) (now (scratch .entry))) r (lent (now (map .exit)) (now (room .exit)) (now (scratch .exit))) ⌝ }
 {
-    let answer = compare(left, right, bound, map, room, scratch);
+    let answer = compare(left, right, bound, both, map, room, scratch);
     compare_number(answer)
 }

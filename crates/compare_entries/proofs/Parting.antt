@@ -12,6 +12,7 @@ use lib.ListN.{length, getD, set, take, drop, length-set, length-append}
 use lib.Seq.{drop-cons, length-take-le, getD-set-same, getD-set-other}
 use mir.Syntax.{w64}
 use mir.Val.{Fits}
+use Rattle.theory.specs.Bisimulation.{oneSided, twoSided}
 use Rattle.fields.specs.Label.{labelWidth}
 use Rattle.sheet.specs.Entry.{Entry, negation, entryWith, way}
 use Rattle.sheet.specs.Sheet.{stepWidth}
@@ -24,9 +25,9 @@ use Rattle.search.specs.Laws.{reason-link, reason-same, reason-differ}
 use Rattle.search_pairs.specs.declared.Route.{Route}
 use Rattle.search.specs.declared.Reason.{Reason}
 use Rattle.compare_laws.specs.Room.{reasonBytes, deniedBytes}
-use Rattle.compare_laws.specs.Comparison.{State, Cause, ahead, back, withDenial, write, part, stepsAlong, reasonEntry}
-use Rattle.compare_entries.specs.Growing.{Roomy, Extends, sideOf, NameFits, Names}
-use Rattle.compare_entries.specs.GrowingLaws.{onward-more, extends-one, extends-more, side-at}
+use Rattle.compare_laws.specs.Comparison.{State, Cause, ahead, back, withDenial, nameLeft, describeRight, write, part, stepsAlong, reasonEntry}
+use Rattle.compare_entries.specs.Growing.{Roomy, Extends, sideOf, Conjoins, NameFits, Names}
+use Rattle.compare_entries.specs.GrowingLaws.{onward-more, extends-one, extends-more, side-at, left-at, left-set, right-kept}
 use Rattle.compare_entries.specs.declared.Pen.{Pen}
 use Rattle.compare_entries.specs.Parting.{listed, causeIn, Passable, Spells, Puttable, Denies, PartFits, Lists, lists, Shows, Parted}
 use Rattle.compare_entries.specs.declared.Way.{Way}
@@ -269,9 +270,9 @@ module _ (room : List ℕ) (pen : Pen) (map : List ℕ) (place : ℕ) (labels to
       next = lists room₂ pen₂ map′ old new′
 
       parted-named : (e : Entry) (i j : ℕ) (cause : Cause)
-          → ((m : ℕ) (now : State) → Shows before now → part m a b cause now ≡ write m a b e i j now) → Denies room room₁ pen pen₁ e
-          → Names room₁ room₂ pen₁ pen₂ map map′ place new new′ a b i j → Parted before next place a b cause
-      unfolding write
+          → ((m : ℕ) (now : State) → Shows before now → part twoSided m a b cause now ≡ write twoSided m a b e i j now) → Denies room room₁ pen pen₁ e
+          → Names room₁ room₂ pen₁ pen₂ map map′ place new new′ a b i j → Parted twoSided before next place a b cause
+      unfolding write nameLeft describeRight
       parted-named e i j cause is y n =
           record {
             next = λ m now d s.
@@ -291,13 +292,58 @@ module _ (room : List ℕ) (pen : Pen) (map : List ℕ) (place : ℕ) (labels to
           }
 
       pub parted-ahead : (forth : Bool) → forth ≡ true → Denies room room₁ pen pen₁ (reasonEntry (sideOf 0 old) (listed labels to why))
-          → Names room₁ room₂ pen₁ pen₂ map map′ place new new′ a b (pen .next) (pen .next + 1) → Parted before next place a b (causeIn labels to forth why)
+          → Names room₁ room₂ pen₁ pen₂ map map′ place new new′ a b (pen .next) (pen .next + 1) → Parted twoSided before next place a b (causeIn labels to forth why)
       unfolding part
       parted-ahead forth h =
           rw h (parted-named _ (pen .next) (pen .next + 1) (ahead (listed labels to why)) (λ m now s. rw (s .oldLeft, s .entries .number, add-one) refl))
 
       pub parted-back : (forth : Bool) → forth ≡ false → Denies room room₁ pen pen₁ (reasonEntry (sideOf 64 old) (listed labels to why))
-          → Names room₁ room₂ pen₁ pen₂ map map′ place new new′ a b (pen .next + 1) (pen .next) → Parted before next place a b (causeIn labels to forth why)
+          → Names room₁ room₂ pen₁ pen₂ map map′ place new new′ a b (pen .next + 1) (pen .next) → Parted twoSided before next place a b (causeIn labels to forth why)
       unfolding part
       parted-back forth h =
           rw h (parted-named _ (pen .next + 1) (pen .next) (back (listed labels to why)) (λ m now s. rw (s .oldRight, s .entries .number, add-one) refl))
+
+-- ---- the pair, where the left side alone counts
+module _ (room : List ℕ) (pen : Pen) (map : List ℕ) (place : ℕ) (labels to old new : List ℕ) (a b : ℕ) (why : Reason)
+    (fits : PartFits room pen map place labels to new a b why) where
+  pub left-fits : pen .at + reasonBytes (pen .version) ≤ length room
+  left-fits = omega (arith, fits .roomy .inside)
+
+  abbrev said : Entry
+  said = reasonEntry (sideOf 0 old) (listed labels to why)
+
+  module _ (room₁ : List ℕ) (end : ℕ) (w : PutEntry (pen .version) room (pen .at) said room₁ end) where
+    abbrev pen₁ : Pen
+    pen₁ = record { at = end; next = pen .next + 1; version = pen .version }
+
+    only : Extends room room₁ pen pen₁ (reasonBytes (pen .version)) 1 (λ es. es ++ (said ∷ []))
+    only =
+        extends-one room room₁ pen (reasonBytes (pen .version)) end said (record { inside = left-fits; few = omega (arith, fits .roomy .few) })
+        (reason-size (pen .version) labels to (sideOf 0 old) why (fits .puttable)) w
+
+    pub left-roomy : Roomy room₁ pen₁ 6 1
+    left-roomy =
+        record { inside = omega (arith, fits .roomy .inside, only .onward .size, only .bytesMost); few = omega (arith, fits .roomy .few) }
+
+    pub parted-left : (room₂ : List ℕ) (pen₂ : Pen) (new′ : List ℕ) → Conjoins room₁ room₂ pen₁ pen₂ new new′ a (pen .next)
+        → Parted oneSided (lists room pen map old new) (lists room₂ pen₂ (set map place (pen .next)) old new′) place a b (ahead (listed labels to why))
+    unfolding write part nameLeft
+    parted-left room₂ pen₂ new′ k =
+        record {
+          next = λ m now d s.
+              let n = s .entries .number in
+              let p = only .grown (now .entries) (s .entries) in
+              let l = left-at new a (fits .leftCell) in
+              rw (← s .oldLeft, ← n)
+              (record {
+                entries = rw (← s .newLeft, l) (k .written .grown (now .entries ++ (said ∷ [])) p);
+                places = rw (← s .places, ← d) refl;
+                oldLeft = refl;
+                oldRight = s .oldRight;
+                newLeft = rw (← s .newLeft, l) (ap (sideOf 0) (k .named _ p) ∙ left-set new a (fits .leftCell) _);
+                newRight = ap (sideOf 64) (k .named _ p) ∙ right-kept new a _ (fits .leftCell) ∙ s .newRight;
+              });
+          onward = onward-more (only .onward) (k .written .onward);
+          version = k .written .version;
+          wide = k .wide;
+        }

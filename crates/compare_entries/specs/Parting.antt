@@ -4,6 +4,7 @@ use mathlib.Core.List.{List, []}
 use mathlib.Core.Path.{_≡_}
 use Prim.Native.Nat.{ℕ, _+_, _*_, _^_, _≤_, _<_}
 use lib.ListN.{length, getD}
+use Rattle.theory.specs.Bisimulation.{Sides}
 use Rattle.theory.specs.Parting.{Reason as TheoryReason}
 use Rattle.fields.specs.Label.{labelWidth}
 use Rattle.sheet.specs.Entry.{Entry}
@@ -80,9 +81,9 @@ pub record Shows (x : Lists) (now : State) : Type 0 where
   pub newLeft : sideOf 0 (x .new) ≡ now .newLeft
   pub newRight : sideOf 64 (x .new) ≡ now .newRight
 
--- Whatever state the lists showed, they show the one after the pair (a, b) was parted; nothing behind the entries was written.
-pub record Parted (x x′ : Lists) (place a b : ℕ) (cause : Cause) : Type 0 where
-  pub next : (m : ℕ) (now : State) → place ≡ a * m + b → Shows x now → Shows x′ (part m a b cause now)
+-- Whatever state the lists showed, they show the one after the pair (a, b) was parted, where so many sides count; nothing behind the entries was written.
+pub record Parted (sides : Sides) (x x′ : Lists) (place a b : ℕ) (cause : Cause) : Type 0 where
+  pub next : (m : ℕ) (now : State) → place ≡ a * m + b → Shows x now → Shows x′ (part sides m a b cause now)
   pub onward : Onward (x .room) (x′ .room) (x .pen .at) (x′ .pen .at)
   pub version : x′ .pen .version ≡ x .pen .version
   pub wide : length (x′ .new) ≡ length (x .new)

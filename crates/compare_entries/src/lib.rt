@@ -5,7 +5,8 @@ ghost use Prim.Native.Nat.{_<_, _+_, _≤_};
 ghost use lib.ListN.{length};
 ghost use Rattle.compare_entries.specs.Growing.{Roomy, sideOf, Conjoins, NameFits, Names};
 ghost use Rattle.sheet_writer.specs.Writing.{PutEntry};
-ghost use Rattle.compare_laws.specs.Comparison.{reasonEntry};
+ghost use Rattle.theory.specs.Bisimulation.{oneSided, twoSided};
+ghost use Rattle.compare_laws.specs.Comparison.{ahead, reasonEntry};
 ghost use Rattle.compare_laws.specs.Room.{reasonBytes, deniedBytes};
 ghost use Rattle.search.specs.Reasons.{Numbered};
 ghost use Rattle.compare_entries.specs.Parting.{listed, lists, causeIn, Spells, Puttable, Denies, PartFits, Parted};
@@ -169,7 +170,7 @@ fn put_denied(
     }
 }
 
-// Parts the pair (a, b) at its place of the map. The reason is found from the left where `ahead`, else from the right: `labels` and `to`
+// Parts the pair (a, b) at its place of the map, where both sides count. The reason is found from the left where `ahead`, else from the right: `labels` and `to`
 // are the links of that side's book. `old` describes the cells since the round's start. Of the entry that puts the reason and its denial, the
 // one that is true at a is named in the map and added to what describes a, and the other to what describes b.
 pub fn part(
@@ -187,7 +188,7 @@ pub fn part(
     ahead: bool,
 ) -> Pen
     requires { ⌜ PartFits (now room) pen (now map) place (now labels) (now to) (now new) (a .0) (b .0) why ⌝ }
-    ensures { λ r. ⌜ Parted (lists (now (room .entry)) pen (now (map .entry)) (now (old .entry)) (now (new .entry))) (lists (now (room .exit)) r (now (map .exit)) (now (old .entry)) (now (new .exit))) place (a .0) (b .0) (causeIn (now (labels .entry)) (now (to .entry)) ahead why) ⌝ }
+    ensures { λ r. ⌜ Parted twoSided (lists (now (room .entry)) pen (now (map .entry)) (now (old .entry)) (now (new .entry))) (lists (now (room .exit)) r (now (map .exit)) (now (old .entry)) (now (new .exit))) place (a .0) (b .0) (causeIn (now (labels .entry)) (now (to .entry)) ahead why) ⌝ }
 {
     let d = pen.next;
     if ahead {
@@ -196,4 +197,34 @@ pub fn part(
     }
     let p = put_denied(room, pen, labels, to, old, RIGHT, why);
     name_pair(room, p, map, place, new, a, b, Question(d + 1), Question(d))
+}
+
+// Parts the pair of the left cell a and a right one at its place of the map, where the left side alone counts: the entry that puts the reason is named in the
+// map and added to what describes a. Nothing is denied, and nothing describes the right cells.
+pub fn part_left(
+    room: &mut [u8],
+    pen: Pen,
+    map: &mut [u16],
+    place: usize,
+    labels: &[u16; 512],
+    to: &[u8; 512],
+    old: &[u16; 128],
+    new: &mut [u16; 128],
+    a: LeftCell,
+    b: RightCell,
+    why: Reason,
+) -> Pen
+    requires { ⌜ PartFits (now room) pen (now map) place (now labels) (now to) (now new) (a .0) (b .0) why ⌝ }
+    ensures { λ r. ⌜ Parted oneSided (lists (now (room .entry)) pen (now (map .entry)) (now (old .entry)) (now (new .entry))) (lists (now (room .exit)) r (now (map .exit)) (now (old .entry)) (now (new .exit))) place (a .0) (b .0) (ahead (listed (now (labels .entry)) (now (to .entry)) why)) ⌝ }
+{
+    let version = pen.version;
+    let d = pen.next;
+    let end = put_reason(room, pen.at, version, labels, to, old, LEFT, why);
+    let p = Pen {
+        at: end,
+        next: d + 1,
+        version,
+    };
+    map[place] = d;
+    describe(room, p, new, a.0, Question(d))
 }

@@ -1,6 +1,6 @@
 -- What Compare writes, as a function of the setting: the entries and the map, by rounds over all pairs of nodes (`comparison`).
 -- A round asks, of each pair that was related as it began, for the reason that plain nested loops come to first (theory, `Choosing`): from the left, or else,
--- two-sided, from the right. Where there is one the pair is parted, and what parts it is written.
+-- two-sided, from the right. Where there is one the pair is parted, and what parts it is written: one-sided without a denial (02, 2026-03).
 use mathlib.Core.Bool.{cond}
 use mathlib.Core.List.{List, [], _∷_, _++_}
 use Prim.Native.Nat.{ℕ, zero, suc, _+_, _*_, _/_, _%_}
@@ -64,25 +64,52 @@ unfoldable pub conjoint : List Entry → ℕ → ℕ → ℕ
 conjoint es zero j = j
 conjoint es (suc i) j = length es
 
--- Write the entry e and its denial, of which i is true at the left node a and j at the right node b; add i to what describes a and j to what describes b;
--- and name i in the map.
-unfoldable pub write : ℕ → ℕ → ℕ → Entry → ℕ → ℕ → State → State
-write m a b e i j now =
-    let es = withDenial (now .entries) e in
-    let es′ = conjoined es (getD (now .newLeft) a 0) i in
+-- The state with other entries.
+abbrev pub withEntries : List Entry → State → State
+withEntries es now =
     record {
-      entries = conjoined es′ (getD (now .newRight) b 0) j;
+      entries = es;
+      map = now .map;
+      oldLeft = now .oldLeft;
+      oldRight = now .oldRight;
+      newLeft = now .newLeft;
+      newRight = now .newRight;
+    }
+
+-- Name the entry i, which is true at the left node a, in the map, and add it to what describes a.
+unfoldable pub nameLeft : ℕ → ℕ → ℕ → ℕ → State → State
+nameLeft m a b i now =
+    record {
+      entries = conjoined (now .entries) (getD (now .newLeft) a 0) i;
       map = set (now .map) (a * m + b) i;
       oldLeft = now .oldLeft;
       oldRight = now .oldRight;
-      newLeft = set (now .newLeft) a (conjoint es (getD (now .newLeft) a 0) i);
-      newRight = set (now .newRight) b (conjoint es′ (getD (now .newRight) b 0) j);
+      newLeft = set (now .newLeft) a (conjoint (now .entries) (getD (now .newLeft) a 0) i);
+      newRight = now .newRight;
     }
 
+-- Add the entry j, which is true at the right node b, to what describes b.
+unfoldable pub describeRight : ℕ → ℕ → State → State
+describeRight b j now =
+    record {
+      entries = conjoined (now .entries) (getD (now .newRight) b 0) j;
+      map = now .map;
+      oldLeft = now .oldLeft;
+      oldRight = now .oldRight;
+      newLeft = now .newLeft;
+      newRight = set (now .newRight) b (conjoint (now .entries) (getD (now .newRight) b 0) j);
+    }
+
+-- Write the entry e, which parts the pair, and where both sides count its denial. Of the two i is true at the left node a, and named; and j at the right node b,
+-- which nothing describes where one side counts.
+unfoldable pub write : Sides → ℕ → ℕ → ℕ → Entry → ℕ → ℕ → State → State
+write oneSided m a b e i j now = nameLeft m a b i (withEntries (now .entries ++ (e ∷ [])) now)
+write twoSided m a b e i j now = describeRight b j (nameLeft m a b i (withEntries (withDenial (now .entries) e) now))
+
 -- The step for a pair that is parted: the entry tests the nodes on its ways by what described them as the round began.
-unfoldable pub part : ℕ → ℕ → ℕ → Cause → State → State
-part m a b (ahead why) now = write m a b (reasonEntry (now .oldLeft) why) (length (now .entries)) (suc (length (now .entries))) now
-part m a b (back why) now = write m a b (reasonEntry (now .oldRight) why) (suc (length (now .entries))) (length (now .entries)) now
+unfoldable pub part : Sides → ℕ → ℕ → ℕ → Cause → State → State
+part x m a b (ahead why) now = write x m a b (reasonEntry (now .oldLeft) why) (length (now .entries)) (suc (length (now .entries))) now
+part x m a b (back why) now = write x m a b (reasonEntry (now .oldRight) why) (suc (length (now .entries))) (length (now .entries)) now
 
 -- The state at the next round's start: what describes a node is what it has become.
 unfoldable pub turned : State → State
@@ -119,13 +146,13 @@ unfoldable pub verdict : Setting → Relation → ℕ → ℕ → Verdict
 verdict s z a b = verdictOf (chosen (s .left) (s .right) (s .bound) z a b) (counted (s .sides) (chosen (s .right) (s .left) (s .bound) (flip z) b a))
 
 -- The step for it.
-unfoldable pub obey : ℕ → ℕ → ℕ → Verdict → State → State
-obey m a b remains now = now
-obey m a b (partedBy why) now = part m a b why now
+unfoldable pub obey : Sides → ℕ → ℕ → ℕ → Verdict → State → State
+obey x m a b remains now = now
+obey x m a b (partedBy why) now = part x m a b why now
 
 -- The step for a pair that z relates; others were parted before.
 unfoldable pub settle : Setting → Relation → ℕ → ℕ → State → State
-settle s z a b now = cond (z a b) (obey (s .right .size) a b (verdict s z a b) now) now
+settle s z a b now = cond (z a b) (obey (s .sides) (s .right .size) a b (verdict s z a b) now) now
 
 -- The state after the places before p, in a round under the relation z.
 unfoldable pub upto : Setting → Relation → ℕ → State → State

@@ -10,7 +10,7 @@ use native.Mathlib.Omega.{arith}
 use borrow.Author.Tests.{eqb-true, eq-eqb}
 use lib.ListN.{length}
 use Rattle.theory.specs.Graph.{Graph}
-use Rattle.theory.specs.Bisimulation.{Relation, flip, Sides, twoSided}
+use Rattle.theory.specs.Bisimulation.{Relation, flip, Sides, oneSided, twoSided}
 use Rattle.theory.specs.Rounds.{zigs, zags}
 use Rattle.theory.specs.TestLaws.{le-or-lt}
 use Rattle.theory.specs.Choosing.{Choice, none, some, chosen}
@@ -21,10 +21,10 @@ use Rattle.compare_laws.specs.Places.{placed}
 use Rattle.compare_laws.specs.PlaceLaws.{nonzeros-most, place-below}
 use Rattle.compare_laws.specs.Setting.{Setting, pairs, relationAfter}
 use Rattle.compare_laws.specs.Room.{pairEntries, pairBytes, roomNeeded}
-use Rattle.compare_laws.specs.Comparison.{State, begin, turned, ahead, back, verdict, obey, settle, upto, states, stateAt, comparison}
+use Rattle.compare_laws.specs.Comparison.{State, begin, turned, verdict, obey, settle, upto, states, stateAt, comparison}
 use Rattle.compare_laws.specs.Refining.{Comparable, Refined, Compared}
 use Rattle.compare_laws.specs.StepLaws.{place-over, place-under, verdict-left, verdict-right, kept-clauses, settle-stays, stays-refined, shares-related, zero-related, zero-spare}
-use Rattle.compare_laws.specs.WritingLaws.{part-refined}
+use Rattle.compare_laws.specs.WritingLaws.{ahead-refined, back-refined}
 use Rattle.compare_laws.specs.RoundLaws.{begin-refined, turned-refined, still-compared, last-compared}
 
 -- the row of a place
@@ -40,6 +40,11 @@ width-some n (suc m) p h = omega arith
 back-holds : (x : Sides) (l r : Graph) (c : ℕ) (z : Relation) (a b : ℕ) → x ≡ twoSided → So (zigs r l c (flip z) b a) → So (zags x l r c z a b)
 unfolding zags
 back-holds x l r c z a b e h = rw e h
+
+-- where one side counts, the other's clauses ask nothing
+one-holds : (x : Sides) (l r : Graph) (c : ℕ) (z : Relation) (a b : ℕ) → x ≡ oneSided → So (zags x l r c z a b)
+unfolding zags
+one-holds x l r c z a b e = rw e refl
 
 module _ {s : Setting} (g : Comparable s) where
   -- ---- the invariant
@@ -63,16 +68,24 @@ module _ {s : Setting} (g : Comparable s) where
       go false e d p d′ p′ = stays (λ t. absurd (false≢true (sym e ∙ t)))
       go true e (some why) p d′ p′ =
           let v = verdict-left s z a b why p in
-          rw (e, v) (part-refined g inv o u e (ahead why) (chosen-fails (s .left) (s .right) z a b (s .bound) why p) v)
-      go true e none p (some why) p′ =
-          let v = verdict-right s z a b p (g .both) why p′ in
-          rw (e, v) (part-refined g inv o u e (back why) (chosen-fails (s .right) (s .left) (flip z) b a (s .bound) why p′) v)
-      go true e none p none p′ =
-          stays (λ _. (
-            chosen-none (s .left) (s .right) z a b (s .bound) (g .symmetric .0) (g .symmetric .1) .0 p,
-            back-holds (s .sides) (s .left) (s .right) (s .bound) z a b (g .both)
-                (chosen-none (s .right) (s .left) (flip z) b a (s .bound) (g .symmetric .1) (g .symmetric .0) .0 p′),
-          ))
+          rw (e, v) (ahead-refined g inv o u e why (chosen-fails (s .left) (s .right) z a b (s .bound) why p) v)
+      go true e none p d′ p′ = behind (s .sides) refl d′ p′
+        where
+          holds : So (zigs (s .left) (s .right) (s .bound) z a b)
+          holds = chosen-none (s .left) (s .right) z a b (s .bound) (g .symmetric .0) (g .symmetric .1) .0 p
+
+          behind : (x : Sides) → s .sides ≡ x → (d′ : Choice) → chosen (s .right) (s .left) (s .bound) (flip z) b a ≡ d′
+              → Refined s k (suc (a * s .right .size + b)) (settle s z a b now)
+          behind oneSided one d′ p′ = stays (λ _. (holds, one-holds (s .sides) (s .left) (s .right) (s .bound) z a b one))
+          behind twoSided both (some why) p′ =
+              let v = verdict-right s z a b p both why p′ in
+              rw (e, v) (back-refined g inv o u e both why (chosen-fails (s .right) (s .left) (flip z) b a (s .bound) why p′) v)
+          behind twoSided both none p′ =
+              stays (λ _. (
+                holds,
+                back-holds (s .sides) (s .left) (s .right) (s .bound) z a b both
+                    (chosen-none (s .right) (s .left) (flip z) b a (s .bound) (g .symmetric .1) (g .symmetric .0) .0 p′),
+              ))
 
   -- the pair at a place
   place-refined : (k a b p : ℕ) (now : State) → a * s .right .size + b ≡ p → a < s .left .size → b < s .right .size → Refined s k p now
@@ -134,16 +147,16 @@ module _ {s : Setting} (g : Comparable s) where
         next-state ∙ settle-stays s (relationAfter s k) a b (stateAt s k p) g
         (λ e. absurd (h (eqb-true _ 0 (refined-here .waiting a b o u (le-refl _) ∙ e))))
 
-    -- the row of a and that of x before it share y, and x and b are not parted: a and b are not
-    pub shared-next : (x y : ℕ) → x < a → y < b → placed (s .right .size) (stateAt s k p .map) a y ≡ 0 → placed (s .right .size) (stateAt s k p .map) x y ≡ 0
+    -- two-sided: the row of a and that of x before it share y, and x and b are not parted: a and b are not
+    pub shared-next : s .sides ≡ twoSided → (x y : ℕ) → x < a → y < b → placed (s .right .size) (stateAt s k p .map) a y ≡ 0 → placed (s .right .size) (stateAt s k p .map) x y ≡ 0
         → placed (s .right .size) (stateAt s k p .map) x b ≡ 0 → stateAt s k (suc p) ≡ stateAt s k p
-    shared-next x y i j d e f =
+    shared-next both x y i j d e f =
         next-state ∙ settle-stays s (relationAfter s k) a b (stateAt s k p) g
-        (λ _. let (_, h, h′) = kept-clauses s k a b (shares-related g refined-here a b x y refl o u i j d e f) in (h, h′))
+        (λ _. let (_, h, h′) = kept-clauses s k a b (shares-related g both refined-here a b x y refl o u i j d e f) in (h, h′))
 
     module _ (h : placed (s .right .size) (stateAt s k p .map) a b ≡ 0) where
       -- the place holds 0: the pair is judged
-      pub zero-next : stateAt s k (suc p) ≡ obey (s .right .size) a b (verdict s (relationAfter s k) a b) (stateAt s k p)
+      pub zero-next : stateAt s k (suc p) ≡ obey (s .sides) (s .right .size) a b (verdict s (relationAfter s k) a b) (stateAt s k p)
       unfolding settle
       zero-next = next-state ∙ rw (zero-related g refined-here o u h) refl
 

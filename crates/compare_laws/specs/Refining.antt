@@ -24,7 +24,7 @@ use Rattle.compare_laws.specs.Entries.{Sheet, Grows, Narrow}
 
 -- ---- what a comparison asks of its setting
 
--- The graphs are as books have them, and the bound is one of 01's. So far both sides count.
+-- The graphs are as books have them, and the bound is one of 01's.
 pub record Comparable (s : Setting) : Type 0 where
   pub formed : WellFormed (s .left) × WellFormed (s .right)
   pub symmetric : Symmetric (s .left) × Symmetric (s .right)
@@ -33,7 +33,6 @@ pub record Comparable (s : Setting) : Type 0 where
   pub some : (1 ≤ s .left .size) × (1 ≤ s .right .size)
   pub small : (s .left .size ≤ 64) × (s .right .size ≤ 64)
   pub bound : s .bound ≤ mostBound
-  pub both : s .sides ≡ twoSided
 
 -- ---- what holds between the steps
 

@@ -108,6 +108,10 @@ module _ (s : Setting) (z : Relation) (a b : ℕ) where
     unfolding verdict verdictOf counted
     verdict-right both why f = rw (e, both, f)
 
+    pub verdict-alone : s .sides ≡ oneSided → verdict s z a b ≡ remains
+    unfolding verdict verdictOf counted
+    verdict-alone one = rw (e, one)
+
     pub verdict-none : chosen (s .right) (s .left) (s .bound) (flip z) b a ≡ none → verdict s z a b ≡ remains
     unfolding verdict verdictOf counted
     verdict-none f = rw (e, f) (ap (verdictOf none) (counted-none (s .sides)))
@@ -120,9 +124,13 @@ module _ (s : Setting) (z : Relation) (a b : ℕ) where
 pub verdict-stays : (s : Setting) (z : Relation) (a b : ℕ) → Comparable s → So (zigs (s .left) (s .right) (s .bound) z a b)
     → So (zags (s .sides) (s .left) (s .right) (s .bound) z a b) → verdict s z a b ≡ remains
 unfolding zags
-verdict-stays s z a b g h h′ =
-    verdict-none s z a b (chosen-none (s .left) (s .right) z a b (s .bound) (g .symmetric .0) (g .symmetric .1) .1 h)
-    (chosen-none (s .right) (s .left) (flip z) b a (s .bound) (g .symmetric .1) (g .symmetric .0) .1 (rw (g .both) at h′))
+verdict-stays s z a b g h h′ = by (s .sides) refl h′
+  where
+    by : (x : Sides) → s .sides ≡ x → So (zags x (s .left) (s .right) (s .bound) z a b) → verdict s z a b ≡ remains
+    by oneSided one _ = verdict-alone s z a b (chosen-none (s .left) (s .right) z a b (s .bound) (g .symmetric .0) (g .symmetric .1) .1 h) one
+    by twoSided both h′ =
+        verdict-none s z a b (chosen-none (s .left) (s .right) z a b (s .bound) (g .symmetric .0) (g .symmetric .1) .1 h)
+        (chosen-none (s .right) (s .left) (flip z) b a (s .bound) (g .symmetric .1) (g .symmetric .0) .1 h′)
 
 -- the clauses of a pair that a round relates hold under the relation before
 pub kept-clauses : (s : Setting) (k a b : ℕ) → So (relationAfter s (suc k) a b)
@@ -250,11 +258,11 @@ module _ {s : Setting} {k a b : ℕ} {now : State} (g : Comparable s)
         }
 
 -- a pair that a row before tells of, two-sided: rows a and x share node y and x is related to b, so a is too (theory, `across`)
-pub shares-related : {s : Setting} {k p : ℕ} {now : State} → Comparable s → Refined s k p now → (a b x y : ℕ) → p ≡ a * s .right .size + b
+pub shares-related : {s : Setting} {k p : ℕ} {now : State} → Comparable s → s .sides ≡ twoSided → Refined s k p now → (a b x y : ℕ) → p ≡ a * s .right .size + b
     → a < s .left .size → b < s .right .size → x < a → y < b → placed (s .right .size) (now .map) a y ≡ 0 → placed (s .right .size) (now .map) x y ≡ 0
     → placed (s .right .size) (now .map) x b ≡ 0 → So (relationAfter s (suc k) a b)
-shares-related {s} {k} {p} {now} g inv a b x y at o u i j e f h =
-    rw (g .both) (across (s .bound) (g .formed .0) (g .formed .1) (suc k) a x y b (kept a y o (omega arith) (omega arith) e)
+shares-related {s} {k} {p} {now} g both inv a b x y at o u i j e f h =
+    rw both (across (s .bound) (g .formed .0) (g .formed .1) (suc k) a x y b (kept a y o (omega arith) (omega arith) e)
     (kept x y (omega arith) (omega arith) (above y (omega arith)) f) (kept x b (omega arith) u (above b u) h))
   where
     above : (w : ℕ) → w < s .right .size → x * s .right .size + w < p
@@ -262,4 +270,4 @@ shares-related {s} {k} {p} {now} g inv a b x y at o u i j e f h =
 
     kept : (v w : ℕ) → v < s .left .size → w < s .right .size → v * s .right .size + w < p → placed (s .right .size) (now .map) v w ≡ 0
         → So (after twoSided (s .left) (s .right) (s .bound) (suc k) v w)
-    kept v w l q h z = rw (g .both) at (sym (inv .settled v w l q h) ∙ eq-eqb _ 0 z)
+    kept v w l q h z = rw both at (sym (inv .settled v w l q h) ∙ eq-eqb _ 0 z)

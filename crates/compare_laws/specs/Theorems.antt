@@ -11,7 +11,7 @@ use lib.ListN.{length}
 use Rattle.theory.specs.Expression.{NodeExpr, neg}
 use Rattle.theory.specs.Meaning.{holds}
 use Rattle.theory.specs.Bound.{Within, depth}
-use Rattle.theory.specs.Bisimulation.{Spoken, Greatest}
+use Rattle.theory.specs.Bisimulation.{Spoken, Greatest, twoSided}
 use Rattle.theory.specs.Rounds.{related, settled}
 use Rattle.theory.specs.TestLaws.{eqb-iff, test-eq}
 use Rattle.theory.specs.GreatestLaws.{greatest}
@@ -51,10 +51,10 @@ test-eq-not true y f g = sym (f refl)
 test-eq-not false true f g = absurd (false≢true (g refl))
 test-eq-not false false f g = refl
 
-module _ {s : Setting} {es : List Entry} {map : List ℕ} (g : Comparable s) (t : Compared s es map) (a b : ℕ) (o : a < s .left .size) (u : b < s .right .size) where
+module _ {s : Setting} {es : List Entry} {map : List ℕ} (g : Comparable s) (both : s .sides ≡ twoSided) (t : Compared s es map) (a b : ℕ) (o : a < s .left .size) (u : b < s .right .size) where
   -- Demand 3: a place holds 0 exactly when every node expression within the bound, of any size, has one truth at both nodes;
   pub zero-agrees : (placed (s .right .size) map a b ≡ 0) ↔ ((q : NodeExpr) → Within (s .bound) q → holds (s .left) q a ≡ holds (s .right) q b)
-  zero-agrees = Iff·trans (t .zeros a b o u) (rw (g .both) (agree-iff (s .bound) (g .formed .0) (g .formed .1) a b o u))
+  zero-agrees = Iff·trans (t .zeros a b o u) (rw both (agree-iff (s .bound) (g .formed .0) (g .formed .1) a b o u))
 
   -- and another number is that of an entry, whose expression keeps to the bound, is true at the left node and false at the right one, and is no deeper than
   -- left nodes × right nodes. None that tells the nodes apart is less deep.
@@ -71,7 +71,7 @@ module _ {s : Setting} {es : List Entry} {map : List ℕ} (g : Comparable s) (t 
           within = p .within;
           left = p .left;
           right = p .right;
-          least = λ q w d. test-eq-not _ _ (least q w (λ i. apart i (g .both)) d) (least (neg q) w (λ i. apart i (g .both)) d);
+          least = λ q w d. test-eq-not _ _ (least q w (λ i. apart i both) d) (least (neg q) w (λ i. apart i both) d);
         },
       )
 

@@ -1,15 +1,16 @@
--- What the step for a parted pair writes is as the invariant asks. (The step writes denials, so it is that of the two-sided comparison.)
+-- What the step for a parted pair writes is as the invariant asks.
 use mathlib.Core.Bool.{So, false≢true}
 use mathlib.Core.List.{List, [], _∷_, _++_}
 use mathlib.Core.Logic.{_≢_, inl, inr, ⊎-elim}
-use mathlib.Core.Path.{_≡_, refl, sym, ap, _∙_}
+use mathlib.Core.Path.{_≡_, refl, sym, ap, subst, _∙_}
 use Prim.Native.Nat.{ℕ, zero, suc, _+_, _*_, _<_, _≤_}
 use native.Mathlib.Omega.{arith}
 use native.Mathlib.Nat.{le-refl}
 use lib.ListN.{length, getD, set}
 use Rattle.theory.specs.Graph.{Graph, WellFormed}
 use Rattle.theory.specs.Expression.{NodeExpr, neg, conj, always}
-use Rattle.theory.specs.Bisimulation.{Relation, flip, Sides}
+use Rattle.theory.specs.Bisimulation.{Relation, flip, Sides, oneSided, twoSided}
+use Rattle.theory.specs.ClauseLaws.{apart}
 use Rattle.theory.specs.Parting.{Parts, Describes, Reason, Fails}
 use Rattle.theory.specs.PartingLaws.{parting, part-back}
 use Rattle.theory.specs.DescribingLaws.{always-holds, conj-describes}
@@ -24,8 +25,8 @@ use Rattle.compare_laws.specs.Setting.{Setting, swapped, relationAfter}
 use Rattle.compare_laws.specs.Entries.{Sheet, Fit, Grows, Narrow}
 use Rattle.compare_laws.specs.EntryLaws.{grows-refl, grows-append, grows-trans, sheet-snoc, expression-zero, length-snoc, length-encode-snoc, fit-negation, fit-conjunction, spell-reasonEntry, size-reasonEntry, fit-reasonEntry}
 use Rattle.compare_laws.specs.Room.{reasonBytes}
-use Rattle.compare_laws.specs.Comparison.{State, Cause, ahead, back, withDenial, conjoined, conjoint, write, part, partedBy, verdict, obey, settle, reasonEntry}
-use Rattle.compare_laws.specs.Refining.{Comparable, Caused, PartsPair, DescribesNode, DescribedBy, Redescribed, Refined}
+use Rattle.compare_laws.specs.Comparison.{State, ahead, back, withDenial, conjoined, conjoint, nameLeft, describeRight, write, part, partedBy, verdict, obey, settle, reasonEntry}
+use Rattle.compare_laws.specs.Refining.{Comparable, PartsPair, DescribesNode, DescribedBy, Redescribed, Refined}
 use Rattle.compare_laws.specs.StepLaws.{describes-more, described-more, redescribed-more, written-refined}
 
 -- ---- "i and j"
@@ -143,69 +144,116 @@ reasonEntry-puts {s} {k} {a} {b} {z} {es} {xs} w narrow small o sheet t why f =
 
 module _ {s : Setting} {k a b : ℕ} {now : State} (g : Comparable s) (inv : Refined s k (a * s .right .size + b) now) (o : a < s .left .size)
     (u : b < s .right .size) (e : So (relationAfter s k a b)) where
-  -- an entry and its denial, of which i parts a from b and j parts b from a
-  write-refined : (d : Entry) (i j : ℕ) → Denied (s .version) (s .bound) (now .entries) d → sizeOf (s .version) d ≤ reasonBytes (s .version) → length (now .entries) ≤ i
-      → i < length (now .entries) + 2 → j < length (now .entries) + 2
-      → PartsPair s (suc k) a b (expression (withDenial (now .entries) d) i)
-      → PartsPair (swapped s) (suc k) b a (expression (withDenial (now .entries) d) j)
-      → settle s (relationAfter s k) a b now ≡ write (s .right .size) a b d i j now
-      → Refined s k (suc (a * s .right .size + b)) (write (s .right .size) a b d i j now)
-  unfolding write
-  write-refined d i j t size fresh h h′ p p′ q =
-      written-refined g inv o u {i = i} e (record {
-        sheet = jr .sheet;
-        grows = grows-trans (t .grows) (grows-trans (jl .grows) (jr .grows));
-        few = omega (arith, jl .few, jr .few, t .many);
-        room = omega (arith, jl .room, jr .room, t .room);
-        map = refl;
-        fresh = fresh;
-        number = omega (arith, jl .grows .longer, jr .grows .longer, t .many);
-        parts = rw (grows-trans (jl .grows) (jr .grows) .same i (omega (arith, t .many))) p;
-        oldLeft = refl;
-        oldRight = refl;
-        newLeft = redescribed-more (jr .grows) (jl .here (now .newLeft));
-        newRight = λ _. jr .here (now .newRight);
-      }) q
-    where
-      es : List Entry
-      es = withDenial (now .entries) d
+  -- the entry i of es, behind those that there were, parts a from b
+  module _ {es : List Entry} (sheet : Sheet (s .version) (s .bound) es) (grows : Grows (now .entries) es) (i : ℕ) (h : i < length es)
+      (p : PartsPair s (suc k) a b (expression es i)) where
+    z′ : Relation
+    z′ = unparted (s .right .size) (set (now .map) (a * s .right .size + b) i)
 
+    still : (x y : ℕ) → x * s .right .size + y ≢ a * s .right .size + b → So (unparted (s .right .size) (now .map) x y) → So (z′ x y)
+    unfolding z′
+    still x y q v = rw (placed-other (s .right .size) (now .map) a b i x y q) v
+
+    left : DescribedBy s (suc k) (unparted (s .right .size) (now .map)) es (now .newLeft)
+    left = described-more (le-refl _) grows (λ x y _ _ h. h) (inv .newLeft)
+
+    -- added to what describes a
+    jl : Conjoined s (suc k) z′ a es (getD (now .newLeft) a 0) i
+    jl =
+        conjoined-describes z′ (λ y v q. still a y (λ w. q (place-column _ a y a b v u w))) _ i sheet (left .earlier a o) h (left .describes a o) p
+
+    -- and j, which parts b from a, to what describes b
+    module _ (both : s .sides ≡ twoSided) (j : ℕ) (h′ : j < length es) (p′ : PartsPair (swapped s) (suc k) b a (expression es j)) where
       es′ : List Entry
       es′ = conjoined es (getD (now .newLeft) a 0) i
 
-      z′ : Relation
-      z′ = unparted (s .right .size) (set (now .map) (a * s .right .size + b) i)
-
-      still : (x y : ℕ) → x * s .right .size + y ≢ a * s .right .size + b → So (unparted (s .right .size) (now .map) x y) → So (z′ x y)
-      still x y q v = rw (placed-other (s .right .size) (now .map) a b i x y q) v
-
-      left : DescribedBy s (suc k) (unparted (s .right .size) (now .map)) es (now .newLeft)
-      left = described-more (le-refl _) (t .grows) (λ x y _ _ h. h) (inv .newLeft)
-
-      jl : Conjoined s (suc k) z′ a es (getD (now .newLeft) a 0) i
-      jl =
-          conjoined-describes z′ (λ y v q. still a y (λ w. q (place-column _ a y a b v u w))) _ i (t .sheet) (left .earlier a o) (omega (arith, t .many))
-          (left .describes a o) p
-
       right : DescribedBy (swapped s) (suc k) (flip (unparted (s .right .size) (now .map))) es′ (now .newRight)
-      right = described-more (le-refl _) (grows-trans (t .grows) (jl .grows)) (λ x y _ _ h. h) (inv .newRight (g .both))
+      unfolding es′
+      right = described-more (le-refl _) (grows-trans grows (jl .grows)) (λ x y _ _ h. h) (inv .newRight both)
 
       jr : Conjoined (swapped s) (suc k) (flip z′) b es′ (getD (now .newRight) b 0) j
+      unfolding es′
       jr =
           conjoined-describes (flip z′) (λ x v q. still x b (λ w. q (place-row _ x b a b u u w))) _ j (jl .sheet) (right .earlier b u)
-          (omega (arith, t .many, jl .grows .longer)) (right .describes b u) (rw (jl .grows .same j (omega (arith, t .many))) p′)
+          (omega (arith, jl .grows .longer)) (right .describes b u) (rw (jl .grows .same j h′) p′)
 
-  -- the step for a pair that is parted keeps the invariant
-  pub part-refined : (why : Cause) → Caused s (relationAfter s k) a b why → verdict s (relationAfter s k) a b ≡ partedBy why
-      → Refined s k (suc (a * s .right .size + b)) (part (s .right .size) a b why now)
+  -- one-sided: an entry that parts a from b
+  write-one : s .sides ≡ oneSided → (d : Entry) (j : ℕ) → Puts s (suc k) a b (now .entries) d
+      → settle s (relationAfter s k) a b now ≡ write oneSided (s .right .size) a b d (length (now .entries)) j now
+      → Refined s k (suc (a * s .right .size + b)) (write oneSided (s .right .size) a b d (length (now .entries)) j now)
+  unfolding write nameLeft z′
+  write-one one d j t q =
+      let es = now .entries in
+      let n = length-snoc es d in
+      let x = jl (sheet-snoc (inv .sheet) d (t .fit)) (grows-append es (d ∷ [])) (length es) (omega arith) (rw (expression-last es d) (t .parts)) in
+      written-refined g inv o u {i = length es} e (record {
+        sheet = x .sheet;
+        grows = grows-trans (grows-append es (d ∷ [])) (x .grows);
+        few = omega (arith, x .few);
+        room = omega (arith, x .room, length-encode-snoc (s .version) es d, t .size);
+        map = refl;
+        fresh = omega arith;
+        number = omega (arith, x .grows .longer);
+        parts = rw (x .grows .same (length es) (omega arith), expression-last es d) (t .parts);
+        oldLeft = refl;
+        oldRight = refl;
+        newLeft = x .here (now .newLeft);
+        newRight = λ both. apart one both;
+      }) q
+
+  -- two-sided: an entry and its denial, of which i parts a from b and j parts b from a
+  write-both : s .sides ≡ twoSided → (d : Entry) (i j : ℕ) → Denied (s .version) (s .bound) (now .entries) d → sizeOf (s .version) d ≤ reasonBytes (s .version)
+      → length (now .entries) ≤ i → i < length (now .entries) + 2 → j < length (now .entries) + 2
+      → PartsPair s (suc k) a b (expression (withDenial (now .entries) d) i)
+      → PartsPair (swapped s) (suc k) b a (expression (withDenial (now .entries) d) j)
+      → settle s (relationAfter s k) a b now ≡ write twoSided (s .right .size) a b d i j now
+      → Refined s k (suc (a * s .right .size + b)) (write twoSided (s .right .size) a b d i j now)
+  unfolding write nameLeft describeRight z′ es′
+  write-both both d i j t size fresh h h′ p p′ q =
+      let x = jl (t .sheet) (t .grows) i (omega (arith, t .many)) p in
+      let y = jr (t .sheet) (t .grows) i (omega (arith, t .many)) p both j (omega (arith, t .many)) p′ in
+      written-refined g inv o u {i = i} e (record {
+        sheet = y .sheet;
+        grows = grows-trans (t .grows) (grows-trans (x .grows) (y .grows));
+        few = omega (arith, x .few, y .few, t .many);
+        room = omega (arith, x .room, y .room, t .room);
+        map = refl;
+        fresh = fresh;
+        number = omega (arith, x .grows .longer, y .grows .longer, t .many);
+        parts = rw (grows-trans (x .grows) (y .grows) .same i (omega (arith, t .many))) p;
+        oldLeft = refl;
+        oldRight = refl;
+        newLeft = redescribed-more (y .grows) (x .here (now .newLeft));
+        newRight = λ _. y .here (now .newRight);
+      }) q
+
+  -- the step for a pair that is parted keeps the invariant: by a reason from the left,
+  pub ahead-refined : (why : Reason) → Fails (s .left) (s .right) (s .bound) (relationAfter s k) a b why
+      → verdict s (relationAfter s k) a b ≡ partedBy (ahead why)
+      → Refined s k (suc (a * s .right .size + b)) (part (s .sides) (s .right .size) a b (ahead why) now)
   unfolding part settle obey
-  part-refined (ahead why) f v =
+  ahead-refined why f v = by (s .sides) refl
+    where
+      t : Puts s (suc k) a b (now .entries) (reasonEntry (now .oldLeft) why)
+      t = reasonEntry-puts (g .formed .0) (g .narrow .0) (g .bound) o (inv .sheet) (inv .oldLeft) why f
+
+      by : (x : Sides) → s .sides ≡ x → Refined s k (suc (a * s .right .size + b)) (part x (s .right .size) a b (ahead why) now)
+      by oneSided one = write-one one _ _ t (rw (e, v, one))
+      by twoSided both =
+          let n = length (now .entries) in
+          let d = withDenial-denied (reasonEntry (now .oldLeft) why) (inv .sheet) (t .fit) in
+          write-both both _ n (suc n) d (t .size) (omega arith) (omega arith) (omega arith) (rw (d .first) (t .parts)) (rw (d .second) (part-back both (t .parts)))
+          (rw (e, v, both))
+
+  -- and two-sided by one from the right
+  pub back-refined : s .sides ≡ twoSided → (why : Reason) → Fails (s .right) (s .left) (s .bound) (flip (relationAfter s k)) b a why
+      → verdict s (relationAfter s k) a b ≡ partedBy (back why)
+      → Refined s k (suc (a * s .right .size + b)) (part (s .sides) (s .right .size) a b (back why) now)
+  unfolding part settle obey
+  back-refined both why f v =
       let n = length (now .entries) in
-      let t = reasonEntry-puts (g .formed .0) (g .narrow .0) (g .bound) o (inv .sheet) (inv .oldLeft) why f in
-      let d = withDenial-denied (reasonEntry (now .oldLeft) why) (inv .sheet) (t .fit) in
-      write-refined _ n (suc n) d (t .size) (omega arith) (omega arith) (omega arith) (rw (d .first) (t .parts)) (rw (d .second) (part-back (g .both) (t .parts))) (rw (e, v))
-  part-refined (back why) f v =
-      let n = length (now .entries) in
-      let t = reasonEntry-puts {s = swapped s} (g .formed .1) (g .narrow .1) (g .bound) u (inv .sheet) (inv .oldRight (g .both)) why f in
+      let t = reasonEntry-puts {s = swapped s} (g .formed .1) (g .narrow .1) (g .bound) u (inv .sheet) (inv .oldRight both) why f in
       let d = withDenial-denied (reasonEntry (now .oldRight) why) (inv .sheet) (t .fit) in
-      write-refined _ (suc n) n d (t .size) (omega arith) (omega arith) (omega arith) (rw (d .second) (part-back (g .both) (t .parts))) (rw (d .first) (t .parts)) (rw (e, v))
+      subst (λ x. Refined s k (suc (a * s .right .size + b)) (part x (s .right .size) a b (back why) now)) (sym both)
+      (write-both both _ (suc n) n d (t .size) (omega arith) (omega arith) (omega arith) (rw (d .second) (part-back both (t .parts))) (rw (d .first) (t .parts))
+      (rw (e, v, both)))

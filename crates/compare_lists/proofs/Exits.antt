@@ -1,4 +1,5 @@
 -- What each function of the crate shows of the definitions of `specs/`, in the form in which `search` finds it.
+use mathlib.Core.Bool.{Bool}
 use mathlib.Core.List.{List}
 use mathlib.Core.Path.{_≡_, refl, sym, ap, _∙_}
 use Prim.Native.Nat.{ℕ, _≤_}
@@ -8,6 +9,7 @@ use mir.Syntax.{w8}
 use mir.Val.{Fits}
 use lib.ListN.{length, getD, replicate}
 use lib.Seq.{length-sets}
+use Rattle.theory.specs.Bisimulation.{sidesOf}
 use Rattle.theory.specs.Graph.{same, differ}
 use Rattle.book.specs.Book.{versionOf, cellsOf, linksOf, bookRefusal}
 use Rattle.book.specs.AcceptedLaws.{book-sizes}
@@ -76,53 +78,55 @@ module _ {left right : List ℕ} {c : ℕ} {map room : List ℕ} (given : Lent l
   pub right-long : 8 ≤ length right
   right-long = book-sizes right (given .rightAccepted) .long
 
-  -- the lists are those of the books' setting
-  ground : {sa la ta ea sb lb tb eb : List ℕ} {n m : ℕ} → ((i : ℕ) → Fits w8 (getD left i 0)) → ((i : ℕ) → Fits w8 (getD right i 0))
-      → IsRead left la ta sa ea → IsRead right lb tb sb eb → n ≡ cellsOf left → m ≡ cellsOf right
-      → Ground (settingOf left right c) (chart sa la ta ea) (chart sb lb tb eb) (record { left = n; right = m; bound = c })
-  ground f g x y dn dm =
-      record {
-        comparable = books-comparable left right c (record { each = λ i. f i .fits }) (record { each = λ i. g i .fits }) (given .leftAccepted) (given .rightAccepted)
-            (given .bound);
-        left = read-charted left (x .from) _ _ _ _ (x .read);
-        right = read-charted right (y .from) _ _ _ _ (y .read);
-        leftSize = dn;
-        rightSize = dm;
-        bound = refl;
-      }
-
-  module _ {map′ room′ : List ℕ} {pen : Pen} {v : ℕ} (d : v ≡ sheetVersion left right) (first : Started v map map′ room room′ pen) where
-    standing : Standing (settingOf left right c) 0 0 (atRest room′ pen map′ (replicate 128 0))
-    unfolding upto states begin
-    standing =
+  module _ (both : Bool) where
+    -- the lists are those of the books' setting
+    ground : {sa la ta ea sb lb tb eb : List ℕ} {n m : ℕ} → ((i : ℕ) → Fits w8 (getD left i 0)) → ((i : ℕ) → Fits w8 (getD right i 0))
+        → IsRead left la ta sa ea → IsRead right lb tb sb eb → n ≡ cellsOf left → m ≡ cellsOf right
+        → Ground (settingOf (sidesOf both) left right c) (chart sa la ta ea) (chart sb lb tb eb) (record { left = n; right = m; bound = c; both = both })
+    ground f g x y dn dm =
         record {
-          shows = record {
-            entries = first .penned;
-            places = first .blank ∙ ap (λ n. replicate n 0) (given .places);
-            oldLeft = refl;
-            oldRight = refl;
-            newLeft = refl;
-            newRight = refl;
-          };
-          version = first .version ∙ d;
-          wide = refl;
-          roomy = rw (first .behind .size) (given .roomy);
+          comparable = books-comparable (sidesOf both) left right c (record { each = λ i. f i .fits }) (record { each = λ i. g i .fits }) (given .leftAccepted) (given .rightAccepted)
+              (given .bound);
+          left = read-charted left (x .from) _ _ _ _ (x .read);
+          right = read-charted right (y .from) _ _ _ _ (y .read);
+          leftSize = dn;
+          rightSize = dm;
+          bound = refl;
+          sides = refl;
         }
 
-    module _ {sa la ta ea sb lb tb eb : List ℕ} {n m : ℕ} (f : (i : ℕ) → Fits w8 (getD left i 0)) (g : (i : ℕ) → Fits w8 (getD right i 0))
-        (x : IsRead left la ta sa ea) (y : IsRead right lb tb sb eb) (dn : n ≡ cellsOf left) (dm : m ≡ cellsOf right) where
-      pub opened : Opens (chart sa la ta ea) (chart sb lb tb eb) (record { left = n; right = m; bound = c }) (atRest room′ pen map′ (replicate 128 0))
-      opened = record { setting = settingOf left right c; before = 0; ground = ground f g x y dn dm; standing = standing }
-
-      pub filled : {map″ room″ new : List ℕ} {pen′ : Pen}
-          → Refines (chart sa la ta ea) (chart sb lb tb eb) (record { left = n; right = m; bound = c }) (atRest room′ pen map′ (replicate 128 0)) (atRest room″ pen′ map″ new)
-          → Fills left right c room room″ pen′ map″
-      filled t =
+    module _ {map′ room′ : List ℕ} {pen : Pen} {v : ℕ} (d : v ≡ sheetVersion left right) (first : Started v map map′ room room′ pen) where
+      standing : Standing (settingOf (sidesOf both) left right c) 0 0 (atRest room′ pen map′ (replicate 128 0))
+      unfolding upto states begin
+      standing =
           record {
-            comparable = ground f g x y dn dm .comparable;
-            finished = t .finished _ 0 (ground f g x y dn dm) standing;
-            behind = record {
-              size = t .onward .size ∙ first .behind .size;
-              kept = λ n h. t .onward .kept n h ∙ first .behind .kept n (omega (arith, t .onward .further));
+            shows = record {
+              entries = first .penned;
+              places = first .blank ∙ ap (λ n. replicate n 0) (given .places);
+              oldLeft = refl;
+              oldRight = refl;
+              newLeft = refl;
+              newRight = refl;
             };
+            version = first .version ∙ d;
+            wide = refl;
+            roomy = rw (first .behind .size) (given .roomy);
           }
+
+      module _ {sa la ta ea sb lb tb eb : List ℕ} {n m : ℕ} (f : (i : ℕ) → Fits w8 (getD left i 0)) (g : (i : ℕ) → Fits w8 (getD right i 0))
+          (x : IsRead left la ta sa ea) (y : IsRead right lb tb sb eb) (dn : n ≡ cellsOf left) (dm : m ≡ cellsOf right) where
+        pub opened : Opens (chart sa la ta ea) (chart sb lb tb eb) (record { left = n; right = m; bound = c; both = both }) (atRest room′ pen map′ (replicate 128 0))
+        opened = record { setting = settingOf (sidesOf both) left right c; before = 0; ground = ground f g x y dn dm; standing = standing }
+
+        pub filled : {map″ room″ new : List ℕ} {pen′ : Pen}
+            → Refines (chart sa la ta ea) (chart sb lb tb eb) (record { left = n; right = m; bound = c; both = both }) (atRest room′ pen map′ (replicate 128 0)) (atRest room″ pen′ map″ new)
+            → Fills both left right c room room″ pen′ map″
+        filled t =
+            record {
+              comparable = ground f g x y dn dm .comparable;
+              finished = t .finished _ 0 (ground f g x y dn dm) standing;
+              behind = record {
+                size = t .onward .size ∙ first .behind .size;
+                kept = λ n h. t .onward .kept n h ∙ first .behind .kept n (omega (arith, t .onward .further));
+              };
+            }

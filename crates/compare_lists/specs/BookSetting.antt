@@ -3,7 +3,7 @@ use mathlib.Core.Bool.{cond, _||_}
 use mathlib.Core.List.{List}
 use Prim.Native.Nat.{ℕ}
 use lib.Dec.{eqb}
-use Rattle.theory.specs.Bisimulation.{twoSided}
+use Rattle.theory.specs.Bisimulation.{Sides}
 use Rattle.book.specs.Book.{versionOf}
 use Rattle.book.specs.BookGraph.{graphOf}
 use Rattle.compare_laws.specs.Setting.{Setting}
@@ -12,6 +12,6 @@ use Rattle.compare_laws.specs.Setting.{Setting}
 unfoldable pub sheetVersion : List ℕ → List ℕ → ℕ
 sheetVersion l r = cond (eqb (versionOf l) 2 || eqb (versionOf r) 2) 2 1
 
--- The graphs of the two books, both sides, the bound, and the version of the sheet.
-abbrev pub settingOf : List ℕ → List ℕ → ℕ → Setting
-settingOf l r c = record { left = graphOf l; right = graphOf r; sides = twoSided; bound = c; version = sheetVersion l r }
+-- The graphs of the two books, the sides that count, the bound, and the version of the sheet.
+abbrev pub settingOf : Sides → List ℕ → List ℕ → ℕ → Setting
+settingOf x l r c = record { left = graphOf l; right = graphOf r; sides = x; bound = c; version = sheetVersion l r }

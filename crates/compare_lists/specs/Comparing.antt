@@ -1,8 +1,10 @@
 -- What is lent for a comparison of two accepted books, and what it leaves before the sheet's header is written.
+use mathlib.Core.Bool.{Bool}
 use mathlib.Core.List.{List, [], _∷_}
 use mathlib.Core.Path.{_≡_}
 use Prim.Native.Nat.{ℕ, _*_, _≤_}
 use lib.ListN.{length, drop, replicate}
+use Rattle.theory.specs.Bisimulation.{sidesOf}
 use Rattle.book.specs.Book.{cellsOf, bookRefusal}
 use Rattle.sheet.specs.Entry.{truth}
 use Rattle.sheet.specs.Sheet.{mostBound}
@@ -39,8 +41,8 @@ pub record Started (v : ℕ) (map map′ room room′ : List ℕ) (pen : Pen) : 
   pub version : pen .version ≡ v
   pub behind : Behind room room′ pen
 
--- The comparison is done.
-pub record Fills (left right : List ℕ) (c : ℕ) (room room′ : List ℕ) (pen : Pen) (map : List ℕ) : Type 0 where
-  pub comparable : Comparable (settingOf left right c)
-  pub finished : Finished (settingOf left right c) room′ pen map
+-- The comparison is done, of both sides or of the left one alone.
+pub record Fills (both : Bool) (left right : List ℕ) (c : ℕ) (room room′ : List ℕ) (pen : Pen) (map : List ℕ) : Type 0 where
+  pub comparable : Comparable (settingOf (sidesOf both) left right c)
+  pub finished : Finished (settingOf (sidesOf both) left right c) room′ pen map
   pub behind : Behind room room′ pen

@@ -13,6 +13,7 @@ use Rattle.fields.specs.LabelLaws.{label-width}
 use Rattle.theory.specs.Search.{list}
 use Rattle.theory.specs.TestLaws.{facts}
 use Rattle.theory.specs.Graph.{Link, has}
+use Rattle.theory.specs.Bisimulation.{Sides}
 use Rattle.book.specs.Book.{versionOf, linksOf, linkAt, bookRefusal}
 use Rattle.book.specs.BookGraph.{graphOf}
 use Rattle.book.specs.AcceptedLaws.{book-sizes, book-graph}
@@ -71,8 +72,8 @@ module _ (l r : List ℕ) where
 narrow : (s : List ℕ) (v : ℕ) → Bytes s → ((a : ℕ) → a < 256 ^ labelWidth (versionOf s) → a < 256 ^ labelWidth v) → Narrow v (graphOf s)
 narrow s v b f = record { label = λ x a y e. f a (label-below (linksOf s) (linkAt s) _ (label-fits s b) x a y e) }
 
-pub books-comparable : (l r : List ℕ) (c : ℕ) → Bytes l → Bytes r → bookRefusal l ≡ 0 → bookRefusal r ≡ 0 → c ≤ mostBound → Comparable (settingOf l r c)
-books-comparable l r c bl br el er h =
+pub books-comparable : (x : Sides) (l r : List ℕ) (c : ℕ) → Bytes l → Bytes r → bookRefusal l ≡ 0 → bookRefusal r ≡ 0 → c ≤ mostBound → Comparable (settingOf x l r c)
+books-comparable x l r c bl br el er h =
     record {
       formed = (book-graph l el, book-graph r er);
       symmetric = (compared-symmetric _, compared-symmetric _);
@@ -81,5 +82,4 @@ books-comparable l r c bl br el er h =
       some = (book-sizes l el .some, book-sizes r er .some);
       small = (book-sizes l el .few, book-sizes r er .few);
       bound = h;
-      both = refl;
     }

@@ -58,11 +58,18 @@ fn begin(map: &mut [u16], room: &mut [u8], version: u8) -> Pen
     }
 }
 
-// Compares two accepted books: fills the map, and the room with the sheet's entries behind a header that is still to be written. The answer says where the
+// Compares two accepted books, of both sides or of the left one alone: fills the map, and the room with the sheet's entries behind a header that is still to be written. The answer says where the
 // sheet ends and how many entries it has.
-pub fn fill(left: &[u8], right: &[u8], bound: u8, map: &mut [u16], room: &mut [u8]) -> Pen
+pub fn fill(
+    left: &[u8],
+    right: &[u8],
+    bound: u8,
+    both: bool,
+    map: &mut [u16],
+    room: &mut [u8],
+) -> Pen
     requires { ⌜ Lent (now left) (now right) bound (now map) (now room) ⌝ }
-    ensures { λ r. ⌜ Fills (now (left .entry)) (now (right .entry)) bound (now (room .entry)) (now (room .exit)) r (now (map .exit)) ⌝ }
+    ensures { λ r. ⌜ Fills both (now (left .entry)) (now (right .entry)) bound (now (room .entry)) (now (room .exit)) r (now (map .exit)) ⌝ }
 {
     let mut sa = [0u16; 65];
     let mut la = [0u16; 512];
@@ -81,6 +88,7 @@ pub fn fill(left: &[u8], right: &[u8], bound: u8, map: &mut [u16], room: &mut [u
         left: n,
         right: m,
         bound,
+        both,
     };
     let pen = begin(map, room, version);
     let mut new = [0u16; 128];

@@ -1,12 +1,12 @@
 -- What each way out of `settle` shows of the definitions of `specs/`. The numbers that the code computed are variables here, with what is
 -- known of them, so that `search` finds them in a need's record.
-use mathlib.Core.Bool.{true, false}
+use mathlib.Core.Bool.{Bool, true, false, not}
 use mathlib.Core.List.{List}
-use mathlib.Core.Path.{_≡_, ap, _∙_}
+use mathlib.Core.Path.{_≡_, refl, sym, ap, _∙_}
 use Prim.Native.Nat.{ℕ, suc, _+_, _*_, _≤_, _<_}
 use native.Mathlib.Nat.{mul-le-mul}
 use native.Mathlib.Omega.{arith}
-use Rattle.theory.specs.Bisimulation.{Relation, flip}
+use Rattle.theory.specs.Bisimulation.{Relation, flip, oneSided, twoSided, sidesOf}
 use Rattle.search_links.specs.Sets.{Valued}
 use Rattle.search.specs.Lengths.{Ready}
 use Rattle.search.specs.Reasons.{Posed, Answered}
@@ -16,7 +16,7 @@ use Rattle.compare_laws.specs.Room.{pairEntries, pairBytes}
 use Rattle.compare_laws.specs.Places.{placed}
 use Rattle.compare_laws.specs.Setting.{Setting, relationAfter}
 use Rattle.compare_laws.specs.Comparison.{Cause, ahead, back, Verdict, remains, partedBy, verdict, obey, stateAt}
-use Rattle.compare_laws.specs.StepLaws.{verdict-left, verdict-right, verdict-none}
+use Rattle.compare_laws.specs.StepLaws.{verdict-left, verdict-right, verdict-alone, verdict-none}
 use Rattle.compare_laws.specs.DefinedLaws.{place-inside, state-refined, zero-next, zero-few, zero-room}
 use Rattle.compare_entries.specs.Growing.{Roomy}
 use Rattle.compare_entries.specs.GrowingLaws.{onward-none}
@@ -24,6 +24,11 @@ use Rattle.compare_entries.specs.Parting.{listed, causeIn, Puttable, PartFits, 
 use Rattle.compare_entries.specs.PartingLaws.{listed-is, answer-puttable}
 use Rattle.compare_pair.specs.declared.Case.{Case}
 use Rattle.compare_pair.specs.Settling.{Chart, basis, Round, Standing, Stands, Goes, placeOf, Undecided}
+
+-- a test that is taken the other way round
+pub not-true : (b : Bool) → not b ≡ true → b ≡ false
+not-true true e = sym e
+not-true false e = refl
 
 module _ {l r : Chart} {rows columns : List ℕ} {x : Lists} {here : Case} (open′ : Undecided (x .map) here) where
   -- ---- of a setting that the lists show
@@ -52,13 +57,13 @@ module _ {l r : Chart} {rows columns : List ℕ} {x : Lists} {here : Case} (open
 
     -- the next state, by the verdict
     next-by : (v : Verdict) → verdict s z (here .left .0) (here .right .0) ≡ v
-        → stateAt s k (suc (placeOf here)) ≡ obey (s .right .size) (here .left .0) (here .right .0) v (stateAt s k (placeOf here))
+        → stateAt s k (suc (placeOf here)) ≡ obey (s .sides) (s .right .size) (here .left .0) (here .right .0) v (stateAt s k (placeOf here))
     next-by v e =
         zero-next (g .ground .comparable) k _ _ (placeOf here) at-place in-left in-right zero
-        ∙ ap (λ v. obey (s .right .size) (here .left .0) (here .right .0) v (stateAt s k (placeOf here))) e
+        ∙ ap (λ v. obey (s .sides) (s .right .size) (here .left .0) (here .right .0) v (stateAt s k (placeOf here))) e
 
     standing-parted : (x′ : Lists) (cause : Cause) → verdict s z (here .left .0) (here .right .0) ≡ partedBy cause
-        → Parted x x′ (placeOf here) (here .left .0) (here .right .0) cause → Standing s k (suc (placeOf here)) x′
+        → Parted (s .sides) x x′ (placeOf here) (here .left .0) (here .right .0) cause → Standing s k (suc (placeOf here)) x′
     unfolding obey
     standing-parted x′ cause e p =
         record {
@@ -103,11 +108,11 @@ module _ {l r : Chart} {rows columns : List ℕ} {x : Lists} {here : Case} (open
 
       module _ (none : why .kind ≡ 0) (why′ : Reason)
           (w′ : Answered (r .view) (l .view) columns (r .ends) (l .ends) (here .right .0) (here .left .0) (here .sizes .bound) why′) where
-        verdict-back : (why′ .kind ≡ 0 → ⊥) → verdict s z (here .left .0) (here .right .0) ≡ partedBy (back (listed (r .view .labels) (r .view .to) why′))
-        verdict-back n =
+        verdict-back : s .sides ≡ twoSided → (why′ .kind ≡ 0 → ⊥) → verdict s z (here .left .0) (here .right .0) ≡ partedBy (back (listed (r .view .labels) (r .view .to) why′))
+        verdict-back both n =
             rw (← listed-is (r .view .starts) (r .view .labels) (r .view .to) why′)
             (verdict-right s z _ _ (rw (g .ground .bound) at (answer-chosen-none _ _ z (l .view) (r .view) rows (l .ends) (r .ends) _ _ _ why w ahead-posed none))
-            (g .ground .comparable .both) _
+            both _
             (rw (g .ground .bound) at (answer-some _ _ (flip z) (r .view) (l .view) columns (r .ends) (l .ends) _ _ _ why′ w′ back-posed n)))
 
         verdict-neither : why′ .kind ≡ 0 → verdict s z (here .left .0) (here .right .0) ≡ remains
@@ -147,9 +152,32 @@ module _ {l r : Chart} {rows columns : List ℕ} {x : Lists} {here : Case} (open
           (answer-puttable (st .round .ground .comparable .narrow .0) (l .view) (r .view) rows (l .ends) (r .ends) _ _ _ why w
           (ahead-posed _ _ (st .round) (st .standing)) bounded n)
 
-      pub ahead-goes : (x′ : Lists) → (why .kind ≡ 0 → ⊥) → Parted x x′ (placeOf here) (here .left .0) (here .right .0) (causeIn (l .view .labels) (l .view .to) true why)
+      -- by a reason from the left, where so many sides count
+      goes-by : (b : Bool) → here .sizes .both ≡ b → (x′ : Lists) → (why .kind ≡ 0 → ⊥)
+          → Parted (sidesOf b) x x′ (placeOf here) (here .left .0) (here .right .0) (ahead (listed (l .view .labels) (l .view .to) why))
           → Goes (basis l r (here .sizes) rows columns) (placeOf here) (suc (placeOf here)) x x′
-      ahead-goes x′ n p = record { next = λ s k g t. standing-parted s k g t x′ _ (verdict-ahead s k g t why w n) p; onward = p .onward }
+      goes-by b e x′ n p =
+          record { next = λ s k g t. standing-parted s k g t x′ _ (verdict-ahead s k g t why w n) (rw (g .ground .sides, e) p); onward = p .onward }
+
+      pub ahead-goes : here .sizes .both ≡ true → (x′ : Lists) → (why .kind ≡ 0 → ⊥)
+          → Parted twoSided x x′ (placeOf here) (here .left .0) (here .right .0) (causeIn (l .view .labels) (l .view .to) true why)
+          → Goes (basis l r (here .sizes) rows columns) (placeOf here) (suc (placeOf here)) x x′
+      ahead-goes = goes-by true
+
+      pub left-goes : here .sizes .both ≡ false → (x′ : Lists) → (why .kind ≡ 0 → ⊥)
+          → Parted oneSided x x′ (placeOf here) (here .left .0) (here .right .0) (ahead (listed (l .view .labels) (l .view .to) why))
+          → Goes (basis l r (here .sizes) rows columns) (placeOf here) (suc (placeOf here)) x x′
+      left-goes = goes-by false
+
+      -- no reason from the left, which alone counts
+      pub covered-goes : here .sizes .both ≡ false → why .kind ≡ 0 → Goes (basis l r (here .sizes) rows columns) (placeOf here) (suc (placeOf here)) x x
+      covered-goes e none =
+          record {
+            next = λ s k g t. standing-stays s k g t
+                (verdict-alone s _ _ _ (rw (g .ground .bound) at (answer-chosen-none _ _ _ (l .view) (r .view) rows (l .ends) (r .ends) _ _ _ why w (ahead-posed s k g t) none))
+                (g .ground .sides ∙ ap sidesOf e));
+            onward = onward-none (x .room) (x .pen .at);
+          }
 
       module _ (none : why .kind ≡ 0) (why′ : Reason)
           (w′ : Answered (r .view) (l .view) columns (r .ends) (l .ends) (here .right .0) (here .left .0) (here .sizes .bound) why′) where
@@ -159,9 +187,15 @@ module _ {l r : Chart} {rows columns : List ℕ} {x : Lists} {here : Case} (open
             (answer-puttable (st .round .ground .comparable .narrow .1) (r .view) (l .view) columns (r .ends) (l .ends) _ _ _ why′ w′
             (back-posed _ _ (st .round) (st .standing)) bounded n)
 
-        pub back-goes : (x′ : Lists) → (why′ .kind ≡ 0 → ⊥) → Parted x x′ (placeOf here) (here .left .0) (here .right .0) (causeIn (r .view .labels) (r .view .to) false why′)
+        pub back-goes : here .sizes .both ≡ true → (x′ : Lists) → (why′ .kind ≡ 0 → ⊥) → Parted twoSided x x′ (placeOf here) (here .left .0) (here .right .0) (causeIn (r .view .labels) (r .view .to) false why′)
             → Goes (basis l r (here .sizes) rows columns) (placeOf here) (suc (placeOf here)) x x′
-        back-goes x′ n p = record { next = λ s k g t. standing-parted s k g t x′ _ (verdict-back s k g t why w none why′ w′ n) p; onward = p .onward }
+        back-goes e x′ n p =
+            record {
+              next = λ s k g t.
+                  let both = g .ground .sides ∙ ap sidesOf e in
+                  standing-parted s k g t x′ _ (verdict-back s k g t why w none why′ w′ both n) (rw both p);
+              onward = p .onward;
+            }
 
         pub stays-goes : why′ .kind ≡ 0 → Goes (basis l r (here .sizes) rows columns) (placeOf here) (suc (placeOf here)) x x
         stays-goes none′ =

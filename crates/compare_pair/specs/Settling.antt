@@ -4,7 +4,7 @@ use mathlib.Core.List.{List}
 use mathlib.Core.Path.{_≡_}
 use Prim.Native.Nat.{ℕ, _+_, _*_, _≤_, _<_}
 use lib.ListN.{length, getD}
-use Rattle.theory.specs.Bisimulation.{flip}
+use Rattle.theory.specs.Bisimulation.{flip, sidesOf}
 use Rattle.search_links.specs.Hops.{View, viewOf}
 use Rattle.search.specs.Reasons.{Charted}
 use Rattle.compare_laws.specs.Setting.{Setting, pairs, relationAfter}
@@ -36,6 +36,7 @@ pub record Ground (s : Setting) (l r : Chart) (z : Sizes) : Type 0 where
   pub leftSize : z .left ≡ s .left .size
   pub rightSize : z .right ≡ s .right .size
   pub bound : z .bound ≡ s .bound
+  pub sides : s .sides ≡ sidesOf (z .both)
 
 -- ---- what a round goes by
 

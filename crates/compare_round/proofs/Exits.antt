@@ -11,6 +11,7 @@ use native.Mathlib.Omega.{arith}
 use borrow.Author.Tests.{eqb-true, ltb-true}
 use lib.Dec.{ltb}
 use lib.ListN.{length, getD}
+use Rattle.theory.specs.Bisimulation.{sidesOf}
 use Rattle.theory.specs.TestLaws.{and-iff}
 use Rattle.compare_laws.specs.Places.{placed, unparted}
 use Rattle.compare_laws.specs.PlaceLaws.{place-below}
@@ -59,11 +60,11 @@ module _ (by : Basis) (i j : ℕ) (x : Lists) (o : i < by .sizes .left) (u : j <
       (λ s k g t. nonzero-next (g .ground .comparable) k i j _ (at-place s k g) (in-left s k g) (in-right s k g) (λ e. h (placed-is s k g t i j ∙ e)))
 
   -- its pair stays by a row before that shares a column with this one
-  pub shared-goes : (a b : ℕ) → a < i → b < j → placed (by .sizes .right) (x .map) i b ≡ 0 → placed (by .sizes .right) (x .map) a b ≡ 0
+  pub shared-goes : by .sizes .both ≡ true → (a b : ℕ) → a < i → b < j → placed (by .sizes .right) (x .map) i b ≡ 0 → placed (by .sizes .right) (x .map) a b ≡ 0
       → placed (by .sizes .right) (x .map) a j ≡ 0 → Goes by (i * by .sizes .right + j) (suc (i * by .sizes .right + j)) x x
-  shared-goes a b l m d e f =
+  shared-goes both a b l m d e f =
       idle _ _ refl refl
-      (λ s k g t. shared-next (g .ground .comparable) k i j _ (at-place s k g) (in-left s k g) (in-right s k g) a b l m
+      (λ s k g t. shared-next (g .ground .comparable) k i j _ (at-place s k g) (in-left s k g) (in-right s k g) (g .ground .sides ∙ ap sidesOf both) a b l m
       (sym (placed-is s k g t i b) ∙ d) (sym (placed-is s k g t a b) ∙ e) (sym (placed-is s k g t a j) ∙ f))
 
 -- the lists as they are where branches meet
@@ -184,13 +185,13 @@ module _ {by : Basis} {i j twin : ℕ} {x₀ x : Lists} (inv : InRow by i j twin
     next-parted = parted-goes by i j x (inv .row) h
 
     -- a pair that stays by the twin
-    pub next-followed : {b : Bool} → b ≡ (ltb twin i && unparted (by .sizes .right) (x .map) twin j) → not b ≡ false
+    pub next-followed : {b : Bool} → b ≡ (by .sizes .both && (ltb twin i && unparted (by .sizes .right) (x .map) twin j)) → not b ≡ false
         → Goes by (i * by .sizes .right + j) (suc (i * by .sizes .right + j)) x x
     next-followed {b} e t =
-        let (k, z) = simp and-iff at (sym e ∙ not-false b t) in
+        let (w, (k, z)) = simp and-iff at (sym e ∙ not-false b t) in
         let l = ltb-true twin i k in
         let (y, v, a, a′) = inv .shares .shared l in
-        shared-goes by i j x (inv .row) h twin y l v a a′ (eqb-true _ 0 z)
+        shared-goes by i j x (inv .row) h w twin y l v a a′ (eqb-true _ 0 z)
       where
         not-false : (b : Bool) → not b ≡ false → b ≡ true
         not-false true d = refl

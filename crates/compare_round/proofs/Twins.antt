@@ -1,13 +1,13 @@
 -- What each turn and each way out of `first_row`, `twin_of` and `follows` shows of the definitions of `specs/`, and what holds of a twin from one column
 -- to the next.
-use mathlib.Core.Bool.{Bool, true, false, cond, _&&_}
+use mathlib.Core.Bool.{Bool, true, false, false≢true, cond, not, _&&_}
 use mathlib.Core.List.{List}
 use mathlib.Core.Path.{_≡_, refl}
 use mathlib.Core.Logic.{_≢_}
 use Prim.Native.Nat.{ℕ, _+_, _*_, _≤_, _<_}
 use native.Mathlib.Nat.{le-refl}
 use native.Mathlib.Omega.{arith}
-use borrow.Author.Tests.{eqb-true, eq-eqb, ne-eqb, lt-ltb, le-ltb}
+use borrow.Author.Tests.{eqb-true, eq-eqb, ne-eqb, lt-ltb, le-ltb, not-false}
 use lib.Dec.{eqb, ltb}
 use lib.ListN.{getD}
 use Rattle.words.specs.Laws.{first-there, first-le, first-stop, first-end, first-next}
@@ -43,11 +43,15 @@ module _ (m : ℕ) (map : List ℕ) (i j twin : ℕ) where
   twin-none h f = rw (le-ltb twin i h, ne-eqb (getD map (i * m + j) 0) 0 f)
 
   -- ---- whether a pair stays by the twin
-  pub follows-row : (b : Bool) → twin < i → b ≡ eqb (getD map (twin * m + j) 0) 0 → b ≡ (ltb twin i && unparted m map twin j)
-  follows-row b h e = rw (lt-ltb twin i h) e
+  pub follows-one : (both : Bool) → not both ≡ true → false ≡ (both && (ltb twin i && unparted m map twin j))
+  follows-one true e = absurd (false≢true e)
+  follows-one false e = refl
 
-  pub follows-none : i ≤ twin → false ≡ (ltb twin i && unparted m map twin j)
-  follows-none h = rw (le-ltb twin i h)
+  pub follows-row : (both b : Bool) → not both ≡ false → twin < i → b ≡ eqb (getD map (twin * m + j) 0) 0 → b ≡ (both && (ltb twin i && unparted m map twin j))
+  follows-row both b d h e = rw (not-false both d, lt-ltb twin i h) e
+
+  pub follows-none : (both : Bool) → not both ≡ false → i ≤ twin → false ≡ (both && (ltb twin i && unparted m map twin j))
+  follows-none both d h = rw (not-false both d, le-ltb twin i h)
 
 -- ---- from column to column
 module _ {m : ℕ} {map : List ℕ} {i j twin : ℕ} (t : Twin m map i j twin) where

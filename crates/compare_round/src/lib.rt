@@ -1,5 +1,5 @@
-// One round of a comparison: every pair whose place of the map holds 0 is settled once, in the order of the places. Rows that share a pair
-// that stays are equal (theory, `RowLaws`): where a row before tells that a pair stays, it is not searched.
+// One round of a comparison: every pair whose place of the map holds 0 is settled once, in the order of the places. Where both sides count, rows that
+// share a pair that stays are equal (theory, `RowLaws`): where a row before tells that a pair stays, it is not searched.
 ghost use mathlib.Core.Bool.{_&&_};
 ghost use mathlib.Core.Path.{_≡_};
 ghost use Prim.Native.Nat.{suc, _+_, _*_, _<_};
@@ -45,11 +45,14 @@ fn twin_of(map: &[u16], m: usize, i: usize, j: usize, twin: usize) -> usize
     i
 }
 
-// Whether the pair (i, j) stays by row i's twin: the twin is a row before, and its place in column j holds 0.
-fn follows(map: &[u16], m: usize, i: usize, j: usize, twin: usize) -> bool
+// Whether the pair (i, j) stays by row i's twin: both sides count, the twin is a row before, and its place in column j holds 0.
+fn follows(map: &[u16], m: usize, i: usize, j: usize, twin: usize, both: bool) -> bool
     requires { ⌜ i * m + j < length (now map) ⌝ }
-    ensures { λ r. ⌜ r ≡ (ltb twin i && unparted m (now (map .entry)) twin j) ⌝ }
+    ensures { λ r. ⌜ r ≡ (both && (ltb twin i && unparted m (now (map .entry)) twin j)) ⌝ }
 {
+    if !both {
+        return false;
+    }
     if twin < i {
         return map[twin * m + j] == 0;
     }
@@ -92,7 +95,7 @@ fn settle_row(
     for column in 0..m {
         let place = i * m + column;
         if map[place] == 0 {
-            if !follows(map, m, i, column, twin) {
+            if !follows(map, m, i, column, twin, sizes.both) {
                 let left = i as u8;
                 let right = column as u8;
                 let here = Case {

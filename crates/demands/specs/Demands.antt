@@ -4,19 +4,19 @@
 -- definitions, and that no function asks anything of its caller.
 -- The definitions that a theorem names are found by the `use` lines; what 000 says of their meaning is `Figure3Laws` of the theory, and what the macros
 -- of include/cuhnavel.h take out of an answer is `OutcomeLaws` of outcome and of each operation's crate.
-use mathlib.Core.Bool.{_&&_}
+use mathlib.Core.Bool.{true, _&&_}
 use mathlib.Core.List.{List, _++_}
 use mathlib.Core.Logic.{_↔_, _≢_}
-use mathlib.Core.Path.{_≡_, sym, ap, _∙_}
+use mathlib.Core.Path.{_≡_, refl, sym, ap, _∙_}
 use Prim.Native.Nat.{ℕ, _≤_, _<_}
 use borrow.Author.Tests.{le-ltb, eq-eqb}
 use lib.Dec.{ltb}
 use lib.ListN.{length, take, drop, getD}
 use Rattle.fields.specs.Fields.{Bytes}
-use Rattle.theory.specs.Expression.{NodeExpr}
+use Rattle.theory.specs.Expression.{NodeExpr, Positive}
 use Rattle.theory.specs.Meaning.{holds}
 use Rattle.theory.specs.Bound.{Within}
-use Rattle.theory.specs.Bisimulation.{twoSided, Greatest}
+use Rattle.theory.specs.Bisimulation.{Sides, oneSided, twoSided, Greatest}
 use Rattle.words.specs.Words.{bit}
 use Rattle.words.specs.Laws.{bit-wordOf}
 use Rattle.book.specs.Book.{cellsOf, bookRefusal}
@@ -35,8 +35,8 @@ use Rattle.compare_laws.specs.Places.{zeroPairs}
 use Rattle.compare.specs.declared.CompareAnswer.{CompareAnswer}
 use Rattle.compare.specs.declared.CompareAnswer.the-variants as says
 use Rattle.compare.specs.Compare.{comparedMap, comparedSheet, Lists, leftBy, rightAnswer, IsCompare, Accepts}
-use Rattle.compare.specs.Parted.{PartedBy}
-use Rattle.compare.specs.Promises.{Given, sheet-accepted, sheet-found, zeros-greatest, zero-exactly, nonzero-parts, contents-alike}
+use Rattle.compare.specs.Parted.{PartedBy, ToldBy}
+use Rattle.compare.specs.Promises.{Given, sheet-accepted, sheet-found, zeros-greatest, zero-keeps, nonzero-tells, zero-exactly, nonzero-parts, contents-alike}
 use Rattle.compare.specs.Laws.{accepts-compared}
 
 -- ---- what Compare leaves
@@ -45,57 +45,94 @@ use Rattle.compare.specs.Laws.{accepts-compared}
 abbrev pub sheetIn : List ℕ → List ℕ
 sheetIn room = take (lengthOf room) room
 
-module _ {l r : List ℕ} {c : ℕ} {before now : Lists} {a : CompareAnswer} (t : IsCompare l r c before a now) (bytes : Bytes l × Bytes r)
+module _ {x : Sides} {l r : List ℕ} {c : ℕ} {before now : Lists} {a : CompareAnswer} (t : IsCompare x l r c before a now) (bytes : Bytes l × Bytes r)
     (given : Accepts l r c (length (before .map)) (length (before .room)) (length (before .scratch))) where
-  is-compared : rightAnswer l r c before ≡ says.Compared (length (comparedSheet l r c)) (zeros (comparedMap l r c))
+  is-compared : rightAnswer x l r c before ≡ says.Compared (length (comparedSheet x l r c)) (zeros (comparedMap x l r c))
   is-compared = accepts-compared l r c _ _ _ _ _ given
 
-  left : now ≡ leftBy l r c before (says.Compared (length (comparedSheet l r c)) (zeros (comparedMap l r c)))
-  left = t .lists ∙ ap (leftBy l r c before) is-compared
+  left : now ≡ leftBy x l r c before (says.Compared (length (comparedSheet x l r c)) (zeros (comparedMap x l r c)))
+  left = t .lists ∙ ap (leftBy x l r c before) is-compared
 
-  map-is : now .map ≡ comparedMap l r c
+  map-is : now .map ≡ comparedMap x l r c
   unfolding leftBy
   map-is = ap (λ (x : Lists). x .map) left
 
-  room-is : now .room ≡ comparedSheet l r c ++ drop (length (comparedSheet l r c)) (before .room)
+  room-is : now .room ≡ comparedSheet x l r c ++ drop (length (comparedSheet x l r c)) (before .room)
   unfolding leftBy
   room-is = ap (λ (x : Lists). x .room) left
 
   books : Given l r c
   books = record { bytes = bytes; left = given .left; right = given .right; bound = given .bound }
 
-  sheet-is : sheetIn (now .room) ≡ comparedSheet l r c
-  sheet-is = ap sheetIn room-is ∙ sheet-found books (drop (length (comparedSheet l r c)) (before .room))
+  sheet-is : sheetIn (now .room) ≡ comparedSheet x l r c
+  sheet-is = ap sheetIn room-is ∙ sheet-found x books (drop (length (comparedSheet x l r c)) (before .room))
 
-  -- For accepted books, a bound of 0 to 4 and lists as long as 01 asks for, Compare answers with the length of the sheet and the number of zeros;
+  -- For accepted books, a bound of 0 to 4 and lists as long as 01 asks for, Compare, one-way too, answers with the length of the sheet and the number of zeros;
   pub answers : a ≡ says.Compared (length (sheetIn (now .room))) (zeros (now .map))
   answers = t .answer ∙ is-compared ∙ rw (sheet-is, map-is)
 
   -- the sheet at the room's start is accepted, with bound c.
   pub accepts-sheet : sheetAnswer (sheetIn (now .room)) ≡ Accepted (countOf (sheetIn (now .room))) c
-  accepts-sheet = rw sheet-is (sheet-accepted books)
+  accepts-sheet = rw sheet-is (sheet-accepted x books)
 
+module _ {l r : List ℕ} {c : ℕ} {before now : Lists} {a : CompareAnswer} (t : IsCompare twoSided l r c before a now) (bytes : Bytes l × Bytes r)
+    (given : Accepts l r c (length (before .map)) (length (before .room)) (length (before .scratch))) where
   -- Demand 2: "For accepted books and a bound of 0 to 4, the pairs marked matched are the greatest data-aware bisimulation for that bound: they form one, and
   -- every other lies within." Every other relation at all, computed or not: `Greatest` says so.
   pub demand-2 : Greatest twoSided (graphOf l) (graphOf r) c (zeroPairs (graphOf l) (graphOf r) (now .map))
-  demand-2 = rw map-is (zeros-greatest books)
+  demand-2 = rw (map-is t bytes given) (zeros-greatest twoSided (books t bytes given))
 
   module _ (i j : ℕ) (o : i < cellsOf l) (u : j < cellsOf r) where
     -- Demand 3: "A pair is marked matched exactly when every question within the bound, however large or nested, is true at both cells or false at both;"
     pub demand-3-matched : (placed (cellsOf r) (now .map) i j ≡ 0) ↔ ((q : NodeExpr) → Within c q → holds (graphOf l) q i ≡ holds (graphOf r) q j)
-    demand-3-matched = rw map-is (zero-exactly books i j o u)
+    demand-3-matched = rw (map-is t bytes given) (zero-exactly (books t bytes given) i j o u)
 
     -- "each parted pair's map entry names a question of the sheet within the bound, true left, false right, no deeper than left cells × right cells."
     pub demand-3-parted : placed (cellsOf r) (now .map) i j ≢ 0 → PartedBy l r c (sheetIn (now .room)) i j (placed (cellsOf r) (now .map) i j)
-    demand-3-parted = rw (map-is, sheet-is) (nonzero-parts books i j o u)
+    demand-3-parted = rw (map-is t bytes given, sheet-is t bytes given) (nonzero-parts (books t bytes given) i j o u)
 
--- "Version 1 is still read, its labels as the same numbers" (02, 2026-02): two calls on books with the same cells and links, of whatever versions, leave
--- the same map, and so match the same pairs.
-module _ {l l′ r r′ : List ℕ} {c : ℕ} {before now before′ now′ : Lists} {a a′ : CompareAnswer} (t : IsCompare l r c before a now) (t′ : IsCompare l′ r′ c before′ a′ now′)
+-- ---- what Compare leaves one-way (02, 2026-03)
+
+module _ {l r : List ℕ} {c : ℕ} {before now : Lists} {a : CompareAnswer} (t : IsCompare oneSided l r c before a now) (bytes : Bytes l × Bytes r)
+    (given : Accepts l r c (length (before .map)) (length (before .room)) (length (before .scratch))) where
+  -- "the greatest relation with the clauses from left to right only (a simulation in source 000)": the covered pairs are one, and every other lies within.
+  pub covered-greatest : Greatest oneSided (graphOf l) (graphOf r) c (zeroPairs (graphOf l) (graphOf r) (now .map))
+  covered-greatest = rw (map-is t bytes given) (zeros-greatest oneSided (books t bytes given))
+
+  module _ (i j : ℕ) (o : i < cellsOf l) (u : j < cellsOf r) where
+    -- "A covered pair keeps every such question within the bound that is true on the left", where such a question is one without "not"; and only a covered one does.
+    pub covered-exactly : (placed (cellsOf r) (now .map) i j ≡ 0)
+        ↔ ((q : NodeExpr) → Within c q → Positive q → holds (graphOf l) q i ≡ true → holds (graphOf r) q j ≡ true)
+    covered-exactly =
+        let keeps = zero-keeps oneSided (books t bytes given) i j o u in
+        rw (map-is t bytes given) (λ e q w p. keeps .0 e q w (λ _. p), λ k. keeps .1 (λ q w p. k q w (p refl)))
+
+    -- "Each uncovered pair gets a question without "not" that is true left and false right": one of the sheet, within the bound, no deeper than left cells × right
+    -- cells, and than which no other such question is less deep.
+    pub uncovered-told : placed (cellsOf r) (now .map) i j ≢ 0 → ToldBy oneSided l r c (sheetIn (now .room)) i j (placed (cellsOf r) (now .map) i j)
+    uncovered-told = rw (map-is t bytes given, sheet-is t bytes given) (nonzero-tells oneSided (books t bytes given) i j o u)
+
+-- "Matched pairs are covered both ways": of three calls on two books and a bound.
+module _ {l r : List ℕ} {c : ℕ} {before now before₁ now₁ before₂ now₂ : Lists} {a a₁ a₂ : CompareAnswer} (t : IsCompare twoSided l r c before a now)
+    (t₁ : IsCompare oneSided l r c before₁ a₁ now₁) (t₂ : IsCompare oneSided r l c before₂ a₂ now₂) (bytes : Bytes l × Bytes r)
+    (given : Accepts l r c (length (before .map)) (length (before .room)) (length (before .scratch)))
+    (given₁ : Accepts l r c (length (before₁ .map)) (length (before₁ .room)) (length (before₁ .scratch)))
+    (given₂ : Accepts r l c (length (before₂ .map)) (length (before₂ .room)) (length (before₂ .scratch))) where
+  pub matched-covered : (i j : ℕ) → i < cellsOf l → j < cellsOf r → placed (cellsOf r) (now .map) i j ≡ 0
+      → (placed (cellsOf r) (now₁ .map) i j ≡ 0) × (placed (cellsOf l) (now₂ .map) j i ≡ 0)
+  matched-covered i j o u e =
+      let agrees = demand-3-matched t bytes given i j o u .0 e in (
+        covered-exactly t₁ bytes given₁ i j o u .1 (λ q w _ h. sym (agrees q w) ∙ h),
+        covered-exactly t₂ (bytes .1, bytes .0) given₂ j i u o .1 (λ q w _ h. agrees q w ∙ h),
+      )
+
+-- "Version 1 is still read, its labels as the same numbers" (02, 2026-02): two calls, of either form, on books with the same cells and links, of whatever versions, leave
+-- the same map, and so match or cover the same pairs.
+module _ {x : Sides} {l l′ r r′ : List ℕ} {c : ℕ} {before now before′ now′ : Lists} {a a′ : CompareAnswer} (t : IsCompare x l r c before a now) (t′ : IsCompare x l′ r′ c before′ a′ now′)
     (bytes : (Bytes l × Bytes r) × (Bytes l′ × Bytes r′)) (given : Accepts l r c (length (before .map)) (length (before .room)) (length (before .scratch)))
     (given′ : Accepts l′ r′ c (length (before′ .map)) (length (before′ .room)) (length (before′ .scratch))) where
   pub versions-alike : SameContents l l′ → SameContents r r′ → now .map ≡ now′ .map
-  versions-alike d e = map-is t (bytes .0) given ∙ contents-alike l l′ r r′ c d e .0 ∙ sym (map-is t′ (bytes .1) given′)
+  versions-alike d e = map-is t (bytes .0) given ∙ contents-alike x l l′ r r′ c d e .0 ∙ sym (map-is t′ (bytes .1) given′)
 
 -- ---- what Truth leaves
 

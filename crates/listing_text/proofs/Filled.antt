@@ -6,6 +6,7 @@ use native.Mathlib.Nat.{mul-le-mul}
 use native.Mathlib.Omega.{arith}
 use lib.ListN.{length, getD, take}
 use lib.Seq.{length-take-le}
+use Rattle.theory.specs.Bisimulation.{twoSided}
 use Rattle.theory.specs.Rounds.{matched}
 use Rattle.book.specs.Book.{cellsOf}
 use Rattle.book.specs.BookGraph.{graphOf}
@@ -31,9 +32,9 @@ module _ (l r : List ℕ) (c : ℕ) (g : Listed l r c) where
   pairs-few = mul-le-mul (g .few-left) (g .few-right)
 
   module _ (map room scratch map′ room′ scratch′ : List ℕ) (a : CompareAnswer) (h : length map ≡ pairsOf l r) (f : 65536 ≡ length room) (k : 65536 ≡ length scratch) where
-    served : rightAnswer l r c (lent map room scratch) ≡ Compared (length (comparedSheet l r c)) (zeros (comparedMap l r c))
+    served : rightAnswer twoSided l r c (lent map room scratch) ≡ Compared (length (comparedSheet twoSided l r c)) (zeros (comparedMap twoSided l r c))
     served =
-        accepts-compared l r c (length map) (length room) (length scratch) (length (comparedSheet l r c)) (zeros (comparedMap l r c))
+        accepts-compared l r c (length map) (length room) (length scratch) (length (comparedSheet twoSided l r c)) (zeros (comparedMap twoSided l r c))
         (record {
           bound = g .bounded;
           left = g .left;
@@ -44,14 +45,14 @@ module _ (l r : List ℕ) (c : ℕ) (g : Listed l r c) where
         })
 
     -- the zeros of the map are the matched pairs
-    pub map-filled : ((i : ℕ) → Fits w8 (getD l i 0)) → ((i : ℕ) → Fits w8 (getD r i 0)) → IsCompare l r c (lent map room scratch) a (lent map′ room′ scratch′)
+    pub map-filled : ((i : ℕ) → Fits w8 (getD l i 0)) → ((i : ℕ) → Fits w8 (getD r i 0)) → IsCompare twoSided l r c (lent map room scratch) a (lent map′ room′ scratch′)
         → MatchMap l r c map′
     unfolding leftBy
     map-filled bl br s =
         let books : Given l r c =
         record { bytes = (record { each = λ i. bl i .fits }, record { each = λ i. br i .fits }); left = g .left; right = g .right; bound = g .bounded } in
-        let e : map′ ≡ comparedMap l r c = ap (λ (x : Lists). x .map) (s .lists ∙ ap (leftBy l r c (lent map room scratch)) served) in
-        rw e (record { places = map-places books; matching = zeros-matched books })
+        let e : map′ ≡ comparedMap twoSided l r c = ap (λ (x : Lists). x .map) (s .lists ∙ ap (leftBy twoSided l r c (lent map room scratch)) served) in
+        rw e (record { places = map-places twoSided books; matching = zeros-matched books })
 
   -- ---- the listing of the map
 

@@ -49,7 +49,7 @@ fn fill(left: &[u8], right: &[u8], c: u8, map: &mut [u16])
 {
     let mut room = io::large_buffer();
     let mut scratch = io::large_buffer();
-    compare::compare(left, right, c as usize, map, &mut room, &mut scratch);
+    compare::compare(left, right, c as usize, true, map, &mut room, &mut scratch);
 }
 
 // Writes the listing of two accepted books of at most 32 cells.

@@ -1,5 +1,5 @@
 -- Simulations and bisimulations for a bound (source 000, definition 4 and section 5.1 at a constant; 01, "Partners").
-use mathlib.Core.Bool.{Bool, true}
+use mathlib.Core.Bool.{Bool, true, cond}
 use mathlib.Core.Path.{_≡_}
 use mathlib.Core.List.{[], _∷_}
 use Prim.Native.Nat.{ℕ, _<_, _≤_}
@@ -73,6 +73,10 @@ pub record Bisimulation (l r : Graph) (c : ℕ) (z : Pairs) : Type 0 where
 -- Which clauses a relation is held to: those from left to right, or those of both sides.
 pub data Sides : Type 0 where
   oneSided twoSided : Sides
+
+-- Both sides, or the left one alone.
+abbrev pub sidesOf : Bool → Sides
+sidesOf both = cond both twoSided oneSided
 
 -- A simulation or a bisimulation.
 abbrev pub Sided : Sides → Graph → Graph → ℕ → Pairs → Type 0

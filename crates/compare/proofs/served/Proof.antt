@@ -19,11 +19,11 @@ clear-bytes-requires c κs = search needs
 zeros-requires : tie.Need-zeros-requires
 zeros-requires c κs = search needs
 
-cast-t17 : tie.Need-cast-t17
-cast-t17 c = record { fits = search sheet-narrow }
+cast-t18 : tie.Need-cast-t18
+cast-t18 c = record { fits = search sheet-narrow }
 
-cast-t22 : tie.Need-cast-t22
-cast-t22 c = record { fits = search count-narrow }
+cast-t23 : tie.Need-cast-t23
+cast-t23 c = record { fits = search count-narrow }
 
 same-length : tie.Need-same-length
 same-length c = search needs
@@ -46,8 +46,8 @@ served-spec =
     put-header-requires
     clear-bytes-requires
     zeros-requires
-    cast-t17
-    cast-t22
+    cast-t18
+    cast-t23
     same-length
     same-length-2
     same-length-3

@@ -1,7 +1,8 @@
 -- `compare_pair::settle` meets its contract.
 use native.Mathlib.Omega.{arith}
+use borrow.Author.Tests.{not-false}
+use Rattle.compare_pair.proofs.Exits.{bounded, place-small, ahead-ready, ahead-valued, ahead-fits, ahead-goes, left-goes, covered-goes, back-ready, back-valued, back-fits, back-goes, stays-goes, not-true}
 use borrow.Author.Needs.{needs}
-use Rattle.compare_pair.proofs.Exits.{bounded, place-small, ahead-ready, ahead-valued, ahead-fits, ahead-goes, back-ready, back-valued, back-fits, back-goes, stays-goes}
 use Rattle.compare_pair.proofs.settle.Statement.{statement}
 use Rattle.compare_pair.proofs.settle.Tie as tie
 
@@ -21,7 +22,7 @@ reason-for-requires : tie.Need-reason-for-requires
 reason-for-requires c κs = let p = c .before .before .before .before .before .before .before .before .pre in (ahead-ready (p .1) (p .0), bounded (p .1) (p .0), ahead-valued (p .1) (p .0))
 
 part-requires : tie.Need-part-requires
-part-requires c κs = let p = c .before .before .before .before .before .before .before .before .before .before .before .before .before .before .pre in ahead-fits (p .1) (p .0) _ (c .before .before .before .before .before .reason-for .ensures) (c .before .before .before .if1 .taken)
+part-requires c κs = let p = c .before .before .before .before .before .before .before .before .before .before .before .before .before .before .before .pre in ahead-fits (p .1) (p .0) _ (c .before .before .before .before .before .before .reason-for .ensures) (c .before .before .before .before .if1 .taken)
 
 same-length : tie.Need-same-length
 same-length c = search needs
@@ -30,15 +31,10 @@ same-length-2 : tie.Need-same-length-2
 same-length-2 c = search needs
 
 returns : tie.Need-returns
-returns c = let p = c .before .before .before .before .before .before .before .before .before .before .before .before .before .before .before .before .before .before .before .pre in ahead-goes (p .1) (p .0) _ (c .before .before .before .before .before .before .before .before .before .before .reason-for .ensures) _ (c .before .before .before .before .before .before .before .before .if1 .taken) (c .before .before .before .before .part .ensures)
+returns c = let p = c .before .before .before .before .before .before .before .before .before .before .before .before .before .before .before .before .before .before .before .before .pre in ahead-goes (p .1) (p .0) _ (c .before .before .before .before .before .before .before .before .before .before .before .reason-for .ensures) (c .before .before .before .before .before .before .before .before .if2 .taken) _ (c .before .before .before .before .before .before .before .before .before .if1 .taken) (c .before .before .before .before .part .ensures)
 
-reason-for-requires-2 : tie.Need-reason-for-requires-2
-reason-for-requires-2 c κs = let p = c .before .before .before .before .before .before .before .before .before .before .before .pre in (back-ready (p .1) (p .0), bounded (p .1) (p .0), back-valued (p .1) (p .0))
-
-part-requires-2 : tie.Need-part-requires-2
-part-requires-2 c κs =
-    let p = c .before .before .before .before .before .before .before .before .before .before .before .before .before .before .before .before .before .pre in
-    back-fits (p .1) (p .0) _ (c .before .before .before .before .before .before .before .before .reason-for .ensures) (c .before .before .before .before .before .before .if1 .left) _ (c .before .before .before .before .before .reason-for2 .ensures) (c .before .before .before .if2 .taken)
+part-left-requires : tie.Need-part-left-requires
+part-left-requires c κs = let p = c .before .before .before .before .before .before .before .before .before .before .before .before .before .before .before .pre in ahead-fits (p .1) (p .0) _ (c .before .before .before .before .before .before .reason-for .ensures) (c .before .before .before .before .if1 .taken)
 
 same-length-3 : tie.Need-same-length-3
 same-length-3 c = search needs
@@ -47,14 +43,28 @@ same-length-4 : tie.Need-same-length-4
 same-length-4 c = search needs
 
 returns-2 : tie.Need-returns-2
-returns-2 c =
-    let p = c .before .before .before .before .before .before .before .before .before .before .before .before .before .before .before .before .before .before .before .before .before .before .pre in
-    back-goes (p .1) (p .0) _ (c .before .before .before .before .before .before .before .before .before .before .before .before .before .reason-for .ensures) (c .before .before .before .before .before .before .before .before .before .before .before .if1 .left) _ (c .before .before .before .before .before .before .before .before .before .before .reason-for2 .ensures) _ (c .before .before .before .before .before .before .before .before .if2 .taken) (c .before .before .before .before .part2 .ensures)
+returns-2 c = let p = c .before .before .before .before .before .before .before .before .before .before .before .before .before .before .before .before .before .before .before .before .pre in left-goes (p .1) (p .0) _ (c .before .before .before .before .before .before .before .before .before .before .before .reason-for .ensures) (c .before .before .before .before .before .before .before .before .if2 .left) _ (c .before .before .before .before .before .before .before .before .before .if1 .taken) (c .before .before .before .before .part-left .ensures)
 
 returns-3 : tie.Need-returns-3
-returns-3 c =
-    let p = c .before .before .before .before .before .before .before .before .before .before .before .before .before .before .pre in
-    stays-goes (p .1) (p .0) _ (c .before .before .before .before .before .reason-for .ensures) (c .before .before .before .if1 .left) _ (c .before .before .reason-for2 .ensures) (c .if2 .left)
+returns-3 c = let p = c .before .before .before .before .before .before .before .before .before .before .before .before .pre in covered-goes (p .1) (p .0) _ (c .before .before .before .reason-for .ensures) (not-true _ (c .if3 .taken)) (c .before .if1 .left)
+
+reason-for-requires-2 : tie.Need-reason-for-requires-2
+reason-for-requires-2 c κs = let p = c .before .before .before .before .before .before .before .before .before .before .before .before .pre in (back-ready (p .1) (p .0), bounded (p .1) (p .0), back-valued (p .1) (p .0))
+
+part-requires-2 : tie.Need-part-requires-2
+part-requires-2 c κs = let p = c .before .before .before .before .before .before .before .before .before .before .before .before .before .before .before .before .before .before .pre in back-fits (p .1) (p .0) _ (c .before .before .before .before .before .before .before .before .before .reason-for .ensures) (c .before .before .before .before .before .before .before .if1 .left) _ (c .before .before .before .before .before .reason-for2 .ensures) (c .before .before .before .if4 .taken)
+
+same-length-5 : tie.Need-same-length-5
+same-length-5 c = search needs
+
+same-length-6 : tie.Need-same-length-6
+same-length-6 c = search needs
+
+returns-4 : tie.Need-returns-4
+returns-4 c = let p = c .before .before .before .before .before .before .before .before .before .before .before .before .before .before .before .before .before .before .before .before .before .before .before .pre in back-goes (p .1) (p .0) _ (c .before .before .before .before .before .before .before .before .before .before .before .before .before .before .reason-for .ensures) (c .before .before .before .before .before .before .before .before .before .before .before .before .if1 .left) _ (c .before .before .before .before .before .before .before .before .before .before .reason-for2 .ensures) (not-false _ (c .before .before .before .before .before .before .before .before .before .before .before .if3 .left)) _ (c .before .before .before .before .before .before .before .before .if4 .taken) (c .before .before .before .before .part2 .ensures)
+
+returns-5 : tie.Need-returns-5
+returns-5 c = let p = c .before .before .before .before .before .before .before .before .before .before .before .before .before .before .before .pre in stays-goes (p .1) (p .0) _ (c .before .before .before .before .before .before .reason-for .ensures) (c .before .before .before .before .if1 .left) _ (c .before .before .reason-for2 .ensures) (c .if4 .left)
 
 pub settle-spec : {M : Type 1} → statement M
 settle-spec =
@@ -69,9 +79,14 @@ settle-spec =
     same-length
     same-length-2
     returns
-    reason-for-requires-2
-    part-requires-2
+    part-left-requires
     same-length-3
     same-length-4
     returns-2
-    returns-3)
+    returns-3
+    reason-for-requires-2
+    part-requires-2
+    same-length-5
+    same-length-6
+    returns-4
+    returns-5)

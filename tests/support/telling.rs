@@ -1,11 +1,11 @@
 //! Random books of many shapes, and random sheets whose questions tell the cells of a book apart: ways go along the book's
 //! links, and an entry that is true at every cell or at none is drawn again a few times.
 
-use crate::support::books::{link, most_links, random_book, Book};
-use crate::support::meaning::{entry_cells, Cells};
-use crate::support::random::Random;
-use crate::support::remade::any_labels;
-use crate::support::sheets::{step, Entry, Sheet, Step};
+use super::books::{link, most_links, random_book, Book};
+use super::meaning::{entry_cells, Cells};
+use super::random::Random;
+use super::remade::any_labels;
+use super::sheets::{step, Entry, Sheet, Step};
 use std::collections::BTreeSet;
 
 /// A book of so many cells (1 to 64), with any labels.
@@ -57,14 +57,15 @@ pub enum Naming {
     First,
 }
 
-/// A sheet for a book: its bound, how many entries, the longest way, which entries are named, and how often an entry that
-/// does not tell cells apart is drawn.
+/// A sheet for a book: its bound, how many entries, the longest way, which entries are named, whether some are "not", and how often an
+/// entry that does not tell cells apart is drawn.
 #[derive(Clone, Copy)]
 pub struct Plan {
     pub bound: u8,
     pub entries: usize,
     pub longest: usize,
     pub naming: Naming,
+    pub denials: bool,
     pub draws: usize,
 }
 
@@ -107,8 +108,8 @@ fn any_entry(random: &mut Random, book: &Book, plan: Plan, known: &[Cells]) -> E
     };
     match random.below(20) {
         0 => Entry::True,
-        1..=3 => Entry::Not(earlier(random, plan, number)),
-        4..=5 => Entry::And(earlier(random, plan, number), earlier(random, plan, number)),
+        1..=3 if plan.denials => Entry::Not(earlier(random, plan, number)),
+        1..=5 => Entry::And(earlier(random, plan, number), earlier(random, plan, number)),
         6..=7 => Entry::Or(earlier(random, plan, number), earlier(random, plan, number)),
         8..=11 => Entry::Way(way(random, plan.longest)),
         12..=15 => Entry::Same(way(random, longest), way(random, longest)),
