@@ -35,7 +35,7 @@ fn of_size(cells: usize) -> Vec<Family> {
     let recorded = some(random, cells);
     let by_one = regular(random, recorded, 8);
     let chained = chain(recordings(random, cells, 2), |_| 1);
-    let recurring = ring((0..cells as u32).map(|x| x % 4).collect());
+    let recurring = ring((0..cells as u32).map(|x| 1 + x % 4).collect());
     let mut families: Vec<Family> = [
         ("8 labels, a link each", by_eight),
         ("one label, 8 links each", by_one),
@@ -239,11 +239,13 @@ fn of_kinds(name: &str, kinds: usize) -> String {
     format!("{name}, {kinds} recording{plural}")
 }
 
-/// Recordings of so many kinds; all different where the kinds suffice.
+/// Recordings of so many kinds, none silent; all different where the kinds suffice.
 fn recordings(random: &mut Random, cells: usize, kinds: usize) -> Vec<u32> {
     match kinds < cells {
-        true => (0..cells).map(|_| random.below(kinds) as u32).collect(),
-        false => (0..cells as u32).collect(),
+        true => (0..cells)
+            .map(|_| random.between(1, kinds) as u32)
+            .collect(),
+        false => (1..=cells as u32).collect(),
     }
 }
 
@@ -291,7 +293,7 @@ fn all_links(kinds: usize) -> Book {
         }
     }
     Book {
-        recordings: (0..2).map(|x| x % kinds as u32).collect(),
+        recordings: (0..2).map(|x| 1 + x % kinds as u32).collect(),
         links,
     }
 }

@@ -78,6 +78,7 @@ uint64_t cuhnavel_check_sheet(const uint8_t *bytes, size_t len);
  *            questions, for the bound, which is of version 2 if either book is, else of version 1; the bytes after the sheet are as
  *            they were.
  *   scratch  at least 16 x n x m bytes. All that is lent becomes zeros.
+ * Recording 0 is silent: a same or differ holds only where both ends have a nonzero recording, here as for cuhnavel_truth.
  * Of two ways that part a pair, those with fewer steps in all are taken first. Which question is taken is fixed, and with it every
  * byte of the map and the sheet: two books and a bound always give the same.
  * Accepted: first is the sheet's length in bytes, second the number of matched pairs.
@@ -110,7 +111,8 @@ uint64_t cuhnavel_compare_one_way(const uint8_t *left, size_t left_len, const ui
 
 /* Truth: where the questions of a sheet are true in a book. Accepted: with q the sheet's number of entries and n the book's
  * number of cells, word k (0 to q - 1) has bit i (value 2^i) exactly when entry k is true at cell i; bits from n up are 0;
- * words from q on are as they were. Both values are 0. The book and the sheet may be of different versions.
+ * words from q on are as they were. Both values are 0. The book and the sheet may be of different versions. Recording 0 is silent: a
+ * same or differ holds only where both ends have a nonzero recording.
  * Refused:
  *   the book's refusal, as cuhnavel_check_book
  *   the sheet's refusal, as cuhnavel_check_sheet

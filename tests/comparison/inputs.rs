@@ -3,7 +3,7 @@
 use crate::expected::{refusal, Asked};
 use crate::seen::TENS;
 use crate::support::books::{
-    book, chain, example_a_left, example_a_right, link, marked_ring, random_book, Book,
+    book, chain, example_a_left, example_a_right, link, marked_ring, random_book, silenced, Book,
 };
 use crate::support::library::needed;
 use crate::support::partners::most_ways;
@@ -30,6 +30,7 @@ const SOME_CLAIMS: usize = 40;
 pub fn all(tally: &mut Tally) {
     let random = &mut Random::new(5);
     examples(tally);
+    silent(tally);
     examples_one_way(tally);
     room_of_example_a(tally);
     by_hand(tally);
@@ -176,6 +177,38 @@ fn examples_one_way(tally: &mut Tally) {
     expect(&looping, &two([5, 6]), 0, &[(0, 0), (0, 1)], &[]);
     expect(&looping, &two([5, 6]), 1, &[], &[(0, 0), (0, 1)]);
     expect(&two([5, 6]), &looping, 1, &[], &[(0, 0), (1, 0)]);
+}
+
+/// Document 02, request 2026-04: ends that are silent count for nothing.
+fn silent(tally: &mut Tally) {
+    let single = |recording| book(&[recording], &[]);
+    let (speaks, says_none) = (single(5), single(0));
+    // A way by 1, of which the only counterpart ends on a silent cell where the other one's end is heard.
+    let leads = |recording| book(&[0, recording], &[link(0, 1, 1)]);
+    // A way by 1 and one by 2, of which one or both of the only counterparts end on silent cells.
+    let forks = |x, y| book(&[0, x, y], &[link(0, 1, 1), link(0, 2, 2)]);
+    for bound in 0..=4 {
+        for sides in FORMS {
+            let mut expect = |left: &Book, right: &Book, stay: &[_], parted: &[_]| {
+                expect(tally, sides, left, right, bound, stay, parted)
+            };
+            let here = [(0, 0)];
+            expect(&speaks, &speaks, &here, &[]);
+            expect(&says_none, &says_none, &here, &[]);
+            expect(&speaks, &says_none, &[], &here);
+            // One-way a silent cell asks for nothing.
+            match sides {
+                Sides::One => expect(&says_none, &speaks, &here, &[]),
+                Sides::Two => expect(&says_none, &speaks, &[], &here),
+            }
+            expect(&leads(5), &leads(0), &[], &[(0, 0), (1, 1)]);
+            expect(&leads(0), &leads(0), &[(0, 0), (1, 1)], &[(0, 1)]);
+            // Of two recordings one is silent: they neither differ nor are the same.
+            expect(&forks(5, 0), &forks(7, 0), &[(0, 0), (1, 1), (2, 2)], &[]);
+            expect(&forks(5, 6), &forks(7, 0), &[], &[(0, 0), (2, 2)]);
+            expect(&forks(5, 5), &forks(0, 0), &[], &[(0, 0), (1, 1), (2, 2)]);
+        }
+    }
 }
 
 /// "Room of 273 bytes declines A; 274 serves." If a book is of version 2, 10 + 52 × 6 bytes serve.
@@ -363,9 +396,11 @@ fn sizes(tally: &mut Tally, random: &mut Random) {
         let bound = cells % 5;
         let links = random.between(0, cells);
         let many = random_book(random, cells, links, 2, 3);
+        let many = silenced(random, many);
         let few = random.between(1, 3);
         let links = random.between(0, few);
         let few = random_book(random, few, links, 2, 3);
+        let few = silenced(random, few);
         match cells % 2 {
             0 => ask(tally, random, &many, &few, bound, OTHERS, SOME_CLAIMS),
             _ => ask(tally, random, &few, &many, bound, OTHERS, SOME_CLAIMS),
@@ -391,7 +426,10 @@ fn draw_middling(random: &mut Random, round: usize, bound: usize) -> (Book, Book
         let kinds = random.between(1, 3);
         let labels = random.between(1, 4);
         let links = random.between(cells, 3 * cells);
-        let any = |random: &mut Random, cells| random_book(random, cells, links, labels, kinds);
+        let any = |random: &mut Random, cells| {
+            let book = random_book(random, cells, links, labels, kinds);
+            silenced(random, book)
+        };
         let (left, right) = match round % 4 {
             0 => {
                 let book = any(random, cells);
@@ -419,7 +457,8 @@ fn draw_middling(random: &mut Random, round: usize, bound: usize) -> (Book, Book
 /// Books with many classes of paths of one length: one or two links by each of four labels from each cell.
 fn crowded(tally: &mut Tally, random: &mut Random) {
     for cells in [10, 12, 14, 16] {
-        let mut book = random_book(random, cells, 0, 1, 3);
+        let book = random_book(random, cells, 0, 1, 3);
+        let mut book = silenced(random, book);
         for from in 0..cells as u8 {
             for label in 0..4 {
                 for _ in 0..random.between(1, 2) {
@@ -448,7 +487,7 @@ fn large(tally: &mut Tally, random: &mut Random) {
         ask(random, &bare, &bare, bound);
     }
     // Chains: as many rounds as cells, and questions as deep.
-    let recordings = (0..64).map(|_| random.below(2) as u32).collect();
+    let recordings = (0..64).map(|_| random.between(1, 2) as u32).collect();
     let long = chain(recordings, |_| 1);
     let other = renumbered(random, &long);
     ask(random, &long, &other, 4);
@@ -526,8 +565,8 @@ fn ask_dense(tally: &mut Tally, random: &mut Random, cells: usize, labels: usize
 /// Ways to one cell with more sets of recordings than the tables of the library have places. Of the other book's 13 cells that differ in
 /// recording, a link by each of 12 labels leads to seven, of which any two such sets share some, and by the label's number further round.
 fn many_values(tally: &mut Tally, random: &mut Random) {
-    let mut left = book(&[0, 1], &[]);
-    let mut right = book(&(0..14).collect::<Vec<u32>>(), &[]);
+    let mut left = book(&[1, 2], &[]);
+    let mut right = book(&(1..=14).collect::<Vec<u32>>(), &[]);
     for label in 1..=12 {
         left.links.extend([link(0, label, 1), link(1, label, 1)]);
         let mut seven: Vec<u8> = (1..=13).collect();

@@ -2,7 +2,7 @@
 
 use crate::kept::Kept;
 use crate::searches::Searches;
-use crate::support::counts::{Counts, Versions, OF_BOOK};
+use crate::support::counts::{Counts, Silence, Versions, OF_BOOK};
 use crate::support::outcome::{CALL, LEFT_BOOK, RIGHT_BOOK};
 use crate::support::shapes::{OTHERS, SHAPES};
 use crate::support::sides::Sides;
@@ -26,6 +26,7 @@ pub struct Seen {
     pub answers: Counts,
     /// Of the left book and the right one.
     pub versions: Versions,
+    pub silence: Silence,
     pub claims: usize,
     /// Of each shape, by its place in `SHAPES`, of all others and of `TENS` at the end; by bound.
     pub pairs: [[Pairs; 5]; TENS + 1],
@@ -45,6 +46,7 @@ impl Seen {
             sides,
             answers: Counts::new(sides.operation()),
             versions: Versions::default(),
+            silence: Silence::default(),
             claims: 0,
             pairs: Default::default(),
             questions: BTreeMap::new(),
@@ -67,6 +69,7 @@ impl Seen {
             ],
         );
         self.versions.report(self.sides.operation());
+        self.silence.report(self.sides.operation());
         self.report_pairs();
         let parted: usize = self.depths.values().sum();
         println!(

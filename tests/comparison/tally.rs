@@ -139,6 +139,7 @@ impl Tally {
         };
         let ways = most_ways(&one, asked.bound).max(most_ways(&other, asked.bound));
         let seen = self.of(asked);
+        seen.silence.count(&[&one, &other]);
         if n * m * ways * ways <= REACH {
             naive(call, asked, (&one, &other), written, &dropped);
             seen.naive += 1;

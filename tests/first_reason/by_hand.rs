@@ -3,10 +3,12 @@
 use crate::support::books::{
     book, chain, example_a_left, example_a_right, link, marked_ring, Book,
 };
+use crate::support::library;
 use crate::support::measures::depths;
 use crate::support::sheets::Entry::{And, Differ, Not, Same, True, Way};
 use crate::support::sheets::{step, Entry, Sheet, Step};
 use crate::support::sides::Sides::{self, One, Two};
+use crate::support::sides::FORMS;
 use crate::tally::Tally;
 
 pub fn all(tally: &mut Tally) {
@@ -18,6 +20,8 @@ pub fn all(tally: &mut Tally) {
     links(tally);
     wide_labels(tally);
     paths(tally);
+    silent(tally);
+    counterparts_silent(tally);
 }
 
 /// Steps along these labels, with always true as tests.
@@ -216,6 +220,49 @@ fn paths(tally: &mut Tally) {
     let all = star(&[5, 6, 7, 8]);
     first(tally, &all, &alike, 4, true, differ(&[1], &[2]));
     first(tally, &alike, &all, 4, true, same(&[1], &[2]));
+}
+
+/// A cell that speaks and a silent one are parted by "same: stay, stay" at every bound, which is denied where the left one is silent.
+/// One-way the silent one is covered. Two silent cells are partners.
+fn silent(tally: &mut Tally) {
+    let single = |recording| book(&[recording], &[]);
+    let (speaks, says_none) = (single(5), single(0));
+    let entries = [same(&[], &[]), Not(1)];
+    for bound in 0..=4 {
+        let sheet = whole(tally, Two, &speaks, &says_none, bound, &[1], &entries);
+        assert_eq!(text(&sheet, 1), "<.=.>");
+        let sheet = whole(tally, Two, &says_none, &speaks, bound, &[2], &entries);
+        assert_eq!(text(&sheet, 2), "!(<.=.>)");
+        whole(tally, One, &speaks, &says_none, bound, &[1], &entries[..1]);
+        whole(tally, One, &says_none, &speaks, bound, &[0], &[]);
+        for sides in FORMS {
+            whole(tally, sides, &says_none, &says_none, bound, &[0], &[]);
+            whole(tally, sides, &speaks, &speaks, bound, &[0], &[]);
+        }
+    }
+}
+
+/// Ways of which the only counterparts end on a silent cell have none.
+fn counterparts_silent(tally: &mut Tally) {
+    let leads = |recording| book(&[0, recording], &[link(0, 1, 1)]);
+    let forks = |x, y| book(&[0, x, y], &[link(0, 1, 1), link(0, 2, 2)]);
+    for bound in 1..=4 {
+        first(tally, &leads(5), &leads(0), bound, true, same(&[1], &[1]));
+        first(tally, &leads(0), &leads(5), bound, false, same(&[1], &[1]));
+        let (left, right) = (forks(5, 6), forks(7, 0));
+        first(tally, &left, &right, bound, true, differ(&[1], &[2]));
+        first(tally, &right, &left, bound, false, differ(&[1], &[2]));
+        let (left, right) = (forks(5, 5), forks(7, 0));
+        first(tally, &left, &right, bound, true, same(&[1], &[2]));
+    }
+}
+
+/// The text of the sheet's entry.
+fn text(sheet: &Sheet, entry: usize) -> String {
+    let mut room = [0; 16];
+    let answer = library::question_text(&sheet.bytes(1), entry, &mut room);
+    assert_eq!(answer.refusal, 0);
+    String::from_utf8_lossy(&room[..answer.first as usize]).into_owned()
 }
 
 /// Compares the books in every mix of versions: the first pair is parted in the first round, by this entry at the left cell or else at

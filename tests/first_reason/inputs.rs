@@ -15,10 +15,10 @@ pub fn all(tally: &mut Tally) {
     by_shape(tally, random);
 }
 
-/// Every two books of one or two cells and one label.
+/// Every two books of one or two cells and one label, some or all of them silent.
 fn every_small(tally: &mut Tally) {
     let mut books = Vec::new();
-    for recordings in [&[5][..], &[5, 5], &[5, 6]] {
+    for recordings in [&[5][..], &[0], &[5, 5], &[5, 6], &[5, 0], &[0, 0]] {
         let cells = recordings.len() as u8;
         let ends = (0..cells).flat_map(|x| (0..cells).map(move |y| (x, y)));
         let links: Vec<_> = ends.map(|(x, y)| link(x, 1, y)).collect();

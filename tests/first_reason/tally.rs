@@ -3,7 +3,7 @@
 use crate::shorter::Shorter;
 use crate::support::books::Book;
 use crate::support::call::Call;
-use crate::support::counts::Versions;
+use crate::support::counts::{Silence, Versions};
 use crate::support::described::compared;
 use crate::support::lent::Lent;
 use crate::support::library::{self, needed};
@@ -32,6 +32,7 @@ pub struct Tally {
     turn: usize,
     /// Of the left book and the right one.
     versions: Versions,
+    silence: Silence,
     /// Of each of the `FORMS`, by bound.
     by_bound: [[Named; 5]; 2],
     shorter: Shorter,
@@ -43,6 +44,7 @@ impl Tally {
             random: Random::new(16),
             turn: 0,
             versions: Versions::default(),
+            silence: Silence::default(),
             by_bound: Default::default(),
             shorter: Shorter::default(),
         }
@@ -134,6 +136,7 @@ impl Tally {
             call.fail("the sheet has a \"not\"");
         }
         self.versions.count(&[&one, &other]);
+        self.silence.count(&[left, right]);
         self.count(sides, &expected.map, &sheet);
         self.shorter
             .check(&call, sides, left, right, &expected.map, &sheet);
@@ -165,6 +168,7 @@ impl Tally {
         }
         self.shorter.report();
         self.versions.report("compare");
+        self.silence.report("compare");
         self.turn
     }
 
@@ -186,8 +190,8 @@ impl Tally {
                     "    {name:<13}links {:>7}, comparisons {comparisons:>7}, by steps in all {by_steps:?}",
                     named.links[side]
                 );
-                // None compares staying with itself.
-                if let Some(steps) = (1..by_steps.len()).find(|&steps| by_steps[steps] == 0) {
+                // Staying is compared with itself where one of the cells is silent.
+                if let Some(steps) = (0..by_steps.len()).find(|&steps| by_steps[steps] == 0) {
                     println!("bound {bound}: no comparison {name} has {steps} steps in all");
                     std::process::exit(1);
                 }

@@ -1,14 +1,16 @@
 //! Books: accepted ones of all sizes, each limit of document 01, and damaged ones.
 
 use crate::damage;
-use crate::support::books::{book, example_a_left, link, most_links, random_book, Book, Link};
+use crate::support::books::{
+    book, example_a_left, link, most_links, random_book, silenced, Book, Link,
+};
 use crate::support::outcome::{accepted, refused, Outcome, LEFT_BOOK};
 use crate::support::random::Random;
 use crate::support::versions::{all_labels, label_bytes, VERSIONS};
 use crate::support::{changed, set_length};
 use crate::tally::Tally;
 
-const ANY_RECORDING: usize = 1 << 32;
+const ANY_RECORDING: usize = u32::MAX as usize;
 
 pub fn all(tally: &mut Tally) {
     let random = &mut Random::new(1);
@@ -104,6 +106,7 @@ fn sizes(tally: &mut Tally, random: &mut Random, version: u8) {
     let labels = all_labels(version);
     let mut one = |cells: usize, links: usize| {
         let book = random_book(random, cells, links, labels, ANY_RECORDING);
+        let book = silenced(random, book);
         let bytes = book.bytes(version);
         tally.expect(&bytes, accepted(cells as u32, links as u32));
         damage::some_bytes(tally, random, &bytes, 12);

@@ -57,10 +57,10 @@ static size_t draw_book(uint8_t *bytes)
     put_version(bytes);
     size_t width = label_width(bytes), high = width == 2 && one_in(3) ? 256 : 1; /* labels that differ in the high byte */
     size_t cells = any_cells(), labels = one_in(4) ? all_labels(width) / high : between(1, 3);
-    size_t kinds = one_in(8) ? UINT32_MAX : between(1, 3);
+    size_t kinds = one_in(8) ? UINT32_MAX : between(1, 3), least = one_in(2); /* recording 0 is silent */
     uint8_t *at = bytes + 8;
     for (size_t cell = 0; cell < cells; cell++)
-        put_bytes(&at, below(kinds), 4);
+        put_bytes(&at, least + below(kinds), 4);
     /* The triples are numbered in their order; each link is some triples above the one before. */
     size_t triples = cells * labels * cells;
     size_t wanted = between(0, one_in(4) ? MOST_LINKS : 2 * cells);

@@ -4,6 +4,7 @@
 
 use crate::support::checks::check_book;
 use crate::support::outcome::{accepted, refused, Outcome, CALL, LEFT_BOOK, RIGHT_BOOK};
+use crate::support::recordings::{recording, COMPARISONS};
 use crate::support::sides::Sides;
 use crate::support::versions::{label_of, label_width, link_width, step_width, written_version};
 use std::sync::atomic::{AtomicUsize, Ordering};
@@ -25,7 +26,7 @@ struct Graph {
     starts: [u16; 65],
     labels: [u16; 512],
     to: [u8; 512],
-    /// For each cell the cells of the same recording, and those of another.
+    /// For each cell the cells of the same recording, and those of another; none where it or they are silent.
     ends: [[u64; 64]; 2],
 }
 
@@ -33,7 +34,7 @@ fn read(book: &[u8]) -> Graph {
     let width = link_width(book[4]);
     let cells = book[5] as usize;
     let (recordings, links) = book[8..].split_at(4 * cells);
-    let recordings: Vec<&[u8]> = recordings.chunks(4).collect();
+    let recordings: Vec<u32> = recordings.chunks(4).map(recording).collect();
     let mut graph = Graph {
         cells,
         starts: [0; 65],
@@ -43,8 +44,9 @@ fn read(book: &[u8]) -> Graph {
     };
     for x in 0..cells {
         for y in 0..cells {
-            let t = (recordings[x] != recordings[y]) as usize;
-            graph.ends[t][x] |= 1 << y;
+            for (ends, comparison) in graph.ends.iter_mut().zip(COMPARISONS) {
+                ends[x] |= (comparison.passes(recordings[x], recordings[y]) as u64) << y;
+            }
         }
     }
     for (k, link) in links.chunks(width).enumerate() {

@@ -1,7 +1,9 @@
 //! Books and sheets that are accepted.
 
 use crate::expected::{truth_words, Asked};
-use crate::support::books::{chain, example_a_left, example_a_right, random_book, Book};
+use crate::support::books::{
+    book, chain, example_a_left, example_a_right, link, random_book, Book,
+};
 use crate::support::meaning::{sheet_cells, spelled_out};
 use crate::support::outcome::accepted;
 use crate::support::random::Random;
@@ -16,6 +18,7 @@ const MOST_STEPS: usize = 60;
 pub fn all(tally: &mut Tally) {
     let random = &mut Random::new(3);
     by_hand(tally);
+    silent(tally);
     spelled(tally, random);
     small(tally, random);
     sizes(tally, random);
@@ -64,6 +67,41 @@ fn by_hand(tally: &mut Tally) {
                 &of_left,
                 &of_right,
             );
+        }
+    }
+}
+
+/// A silent cell between two of the same recording, and words found by hand: no same or differ holds with the silent one at an end, and
+/// a recording is heard whichever of its bytes is not 0.
+fn silent(tally: &mut Tally) {
+    let one = || vec![step(1, 0)];
+    let two = || vec![step(2, 0)];
+    let entries = [
+        (Entry::True, 7),
+        (Entry::Same(vec![], vec![]), 5),
+        (Entry::Differ(vec![], vec![]), 0),
+        (Entry::Not(1), 2),
+        (Entry::Same(vec![], one()), 0),
+        (Entry::Differ(vec![], one()), 0),
+        (Entry::Same(vec![], two()), 1),
+        (Entry::Same(one(), one()), 2),
+        (Entry::Same(one(), two()), 0),
+        (Entry::Differ(one(), two()), 0),
+        (Entry::Way(one()), 3),
+    ];
+    let sheet = Sheet {
+        bound: 1,
+        entries: entries.iter().map(|(entry, _)| entry.clone()).collect(),
+    };
+    let words = entries.map(|(_, word)| word);
+    for heard in [1, 1 << 8, 1 << 16, 1 << 24] {
+        let links = [link(0, 1, 1), link(0, 2, 2), link(1, 1, 0)];
+        let book = book(&[heard, 0, heard], &links);
+        for [one, other] in MIXES {
+            let (book, sheet) = (book.bytes(one), sheet.bytes(other));
+            assert_eq!(truth_words(&book, &sheet), words);
+            let before = [u64::MAX; 11];
+            tally.expect_truth(&book, &sheet, &before, accepted(0, 0), &words);
         }
     }
 }

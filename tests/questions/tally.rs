@@ -2,7 +2,8 @@
 
 use crate::expected::{self, Asked};
 use crate::plain;
-use crate::support::counts::{Counts, Versions, OF_BOOK, OF_SHEET};
+use crate::support::books::Book;
+use crate::support::counts::{Counts, Silence, Versions, OF_BOOK, OF_SHEET};
 use crate::support::hex;
 use crate::support::lent::Lent;
 use crate::support::library;
@@ -17,6 +18,8 @@ pub struct Tally {
     /// Of the book and the sheet, or of the left book, the right one and the sheet.
     truth_versions: Versions,
     claim_versions: Versions,
+    /// Of the books of Truth.
+    silence: Silence,
     turn: usize,
     /// Words of Truth: of no cell, of every cell, and of others.
     none: usize,
@@ -31,6 +34,7 @@ impl Tally {
             claim: Counts::new("claim"),
             truth_versions: Versions::default(),
             claim_versions: Versions::default(),
+            silence: Silence::default(),
             turn: 0,
             none: 0,
             every: 0,
@@ -93,6 +97,7 @@ impl Tally {
         self.truth.count(answer, "words written");
         if answer.refusal == 0 {
             self.truth_versions.count(&[book, sheet]);
+            self.silence.count(&[&Book::of_bytes(book)]);
         }
         self.turn += 1;
     }
@@ -191,6 +196,7 @@ impl Tally {
             ],
         );
         self.truth_versions.report("truth");
+        self.silence.report("truth");
         self.claim_versions.report("claim");
         truth + claim
     }

@@ -1,6 +1,7 @@
 //! Books as data, and their bytes.
 
 use super::random::Random;
+use super::recordings::{recording, SILENT};
 use super::set_length;
 use super::versions::{any_version, label_bytes, label_of, link_width};
 use std::collections::BTreeSet;
@@ -59,10 +60,7 @@ impl Book {
         let width = link_width(bytes[4]);
         let (recordings, links) = bytes[8..].split_at(4 * bytes[5] as usize);
         Book {
-            recordings: recordings
-                .chunks(4)
-                .map(|field| u32::from_be_bytes([field[0], field[1], field[2], field[3]]))
-                .collect(),
+            recordings: recordings.chunks(4).map(recording).collect(),
             links: links
                 .chunks(width)
                 .map(|field| link(field[0], label_of(&field[1..width - 1]), field[width - 1]))
@@ -128,8 +126,8 @@ pub fn most_links(cells: usize, labels: usize) -> usize {
     (cells * labels * cells).min(512)
 }
 
-/// A book that is accepted: 1 to 64 cells; labels below `labels` (1 to 65,536); recordings below `recordings` (1 to 2^32);
-/// `links` links, at most `most_links`.
+/// A book that is accepted: 1 to 64 cells, none silent; labels below `labels` (1 to 65,536); recordings from 1 to `recordings` (1 to
+/// 2^32 - 1); `links` links, at most `most_links`.
 pub fn random_book(
     random: &mut Random,
     cells: usize,
@@ -147,8 +145,19 @@ pub fn random_book(
     }
     Book {
         recordings: (0..cells)
-            .map(|_| random.below(recordings) as u32)
+            .map(|_| 1 + random.below(recordings) as u32)
             .collect(),
         links: rising.into_iter().collect(),
     }
+}
+
+/// The book, by chance with no silent cells, a few of them, about half or all.
+pub fn silenced(random: &mut Random, mut book: Book) -> Book {
+    let (silent, of) = random.pick(&[(0, 1), (1, 6), (1, 2), (1, 1)]);
+    for recording in &mut book.recordings {
+        if random.below(of) < silent {
+            *recording = SILENT;
+        }
+    }
+    book
 }

@@ -1,6 +1,8 @@
 //! How often each answer was seen, and each mix of versions.
 
+use super::books::Book;
 use super::outcome::{Outcome, CALL, LEFT_BOOK, RIGHT_BOOK, SHEET};
+use super::recordings::SILENT;
 use std::collections::BTreeMap;
 
 /// The refusals of a check, by document 01.
@@ -96,6 +98,35 @@ impl Versions {
         let mixes = self.0.keys().next().map_or(1, |first| 1 << first.len());
         if self.0.len() < mixes || self.0.values().any(|times| times * 40 < all) {
             println!("{operation}: a mix of versions was seen too seldom");
+            std::process::exit(1);
+        }
+    }
+}
+
+/// How often books were accepted together of whose cells none, fewer than a third, others or all are silent.
+#[derive(Default)]
+pub struct Silence([usize; 4]);
+
+impl Silence {
+    pub fn count(&mut self, books: &[&Book]) {
+        let cells: usize = books.iter().map(|book| book.cells()).sum();
+        let recordings = books.iter().flat_map(|book| &book.recordings);
+        let silent = recordings.filter(|&&of| of == SILENT).count();
+        self.0[match silent {
+            0 => 0,
+            _ if silent == cells => 3,
+            _ if silent * 3 < cells => 1,
+            _ => 2,
+        }] += 1;
+    }
+
+    /// Prints the counts, and ends the test where one is less than a twentieth of all.
+    pub fn report(&self, operation: &str) {
+        let [none, few, others, every] = self.0;
+        println!("{operation}, accepted by silent cells: none {none}, few {few}, others {others}, all {every}");
+        let all: usize = self.0.iter().sum();
+        if self.0.iter().any(|times| times * 20 < all) {
+            println!("{operation}: so many silent cells were seen too seldom");
             std::process::exit(1);
         }
     }

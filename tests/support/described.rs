@@ -2,8 +2,9 @@
 //! the descriptions of cells grow. So all that Compare leaves is known to the byte.
 
 use super::books::{Book, Link};
-use super::first_reason::{Comparison, Reason, Side, View};
+use super::first_reason::{Reason, Side, View};
 use super::outcome::{accepted, Outcome};
+use super::recordings::Comparison;
 use super::sheets::{step, Entry, Sheet, Step};
 use super::sides::Sides;
 

@@ -2,16 +2,10 @@
 //! written out. A counterpart is looked for by walking. Slow and plain on purpose: for books whose cells have few paths.
 
 use super::books::{Book, Link};
+use super::recordings::{Comparison, COMPARISONS};
 
 /// A path, by its links in order, from a cell that is said beside it.
 pub type Path = Vec<Link>;
-
-/// What may be asked of the recordings at two ends.
-#[derive(Clone, Copy)]
-pub enum Comparison {
-    Same,
-    Differ,
-}
 
 /// What one cell has and the other lacks: a link, or two paths whose ends pass a comparison.
 pub enum Reason {
@@ -36,11 +30,7 @@ impl Side<'_> {
     }
 
     fn passes(&self, comparison: Comparison, x: usize, y: usize) -> bool {
-        let same = self.book.recordings[x] == self.book.recordings[y];
-        match comparison {
-            Comparison::Same => same,
-            Comparison::Differ => !same,
-        }
+        comparison.passes(self.book.recordings[x], self.book.recordings[y])
     }
 }
 
@@ -109,7 +99,7 @@ impl<Related: Fn(usize, usize) -> bool> View<'_, Related> {
             for i in total.saturating_sub(c)..=total / 2 {
                 for first in &paths[i] {
                     for second in &paths[total - i] {
-                        for comparison in [Comparison::Same, Comparison::Differ] {
+                        for comparison in COMPARISONS {
                             if self.one.passes(comparison, end(a, first), end(a, second))
                                 && !self.met(b, comparison, first, second)
                             {

@@ -2,6 +2,7 @@
 //! Sets of cells are words, so it is in reach for larger books than the naive comparison.
 
 use super::books::Book;
+use super::recordings::COMPARISONS;
 use super::sheets::{Entry, Sheet};
 use super::sides::Sides;
 
@@ -53,7 +54,7 @@ struct Tip {
     alike: u64,
 }
 
-/// A book, by its cells: the labels and targets of their links, and the cells of the same and of other recordings.
+/// A book, by its cells: the labels and targets of their links, and the cells of the same and of other recordings, of heard ones alone.
 struct Side {
     links: Vec<Vec<(u16, usize)>>,
     passing: [Vec<u64>; 2],
@@ -65,9 +66,9 @@ impl Side {
         for l in &book.links {
             links[l.from as usize].push((l.label, l.to as usize));
         }
-        let passing = [true, false].map(|same| {
-            let row =
-                |of: &u32| word((0..book.cells()).filter(|&y| (book.recordings[y] == *of) == same));
+        let passing = COMPARISONS.map(|comparison| {
+            let pass = |x: u32| move |&y: &usize| comparison.passes(x, book.recordings[y]);
+            let row = |&x: &u32| word((0..book.cells()).filter(pass(x)));
             book.recordings.iter().map(row).collect()
         });
         Side { links, passing }

@@ -2,6 +2,7 @@
 //! pairs of cells. Slow and plain on purpose.
 
 use super::books::Book;
+use super::recordings::Comparison;
 use super::sheets::{Entry, Sheet, Step};
 
 /// A set of cells, as whether each cell is in it.
@@ -92,25 +93,23 @@ fn there_is(book: &Book, a: &Pairs) -> Cells {
     cells_with(book, |x| (0..book.cells()).any(|y| a.has(x, y)))
 }
 
-/// {x | for some y, z: (x, y) in α, (x, z) in β, and the recordings of y and z pass}
-fn compared(book: &Book, a: &Pairs, b: &Pairs, pass: impl Fn(u32, u32) -> bool) -> Cells {
+/// {x | for some y, z: (x, y) in α, (x, z) in β, and the recordings of y and z pass}: heard ones alone do
+fn compared(book: &Book, a: &Pairs, b: &Pairs, comparison: Comparison) -> Cells {
+    let pass = |y: usize, z: usize| comparison.passes(book.recordings[y], book.recordings[z]);
     cells_with(book, |x| {
-        (0..book.cells()).any(|y| {
-            a.has(x, y)
-                && (0..book.cells())
-                    .any(|z| b.has(x, z) && pass(book.recordings[y], book.recordings[z]))
-        })
+        (0..book.cells())
+            .any(|y| a.has(x, y) && (0..book.cells()).any(|z| b.has(x, z) && pass(y, z)))
     })
 }
 
 /// ⟨α = β⟩
 fn same(book: &Book, a: &Pairs, b: &Pairs) -> Cells {
-    compared(book, a, b, |y, z| y == z)
+    compared(book, a, b, Comparison::Same)
 }
 
 /// ⟨α ≠ β⟩
 fn differ(book: &Book, a: &Pairs, b: &Pairs) -> Cells {
-    compared(book, a, b, |y, z| y != z)
+    compared(book, a, b, Comparison::Differ)
 }
 
 /// φ ∧ ψ

@@ -16,6 +16,7 @@ pub mod measures;
 pub mod outcome;
 pub mod partners;
 pub mod random;
+pub mod recordings;
 pub mod refusals;
 pub mod remade;
 pub mod shapes;

@@ -2,6 +2,7 @@
 //! with every way of cells written out. Slow and plain on purpose: for books whose cells have few ways.
 
 use super::books::Book;
+use super::recordings::COMPARISONS;
 use super::sides::Sides;
 
 /// A way of cells: the labels of its links in order, and the cells of its places, from the first to its end.
@@ -87,7 +88,8 @@ fn alike(way: &Way, other: &Way, related: &impl Fn(usize, usize) -> bool) -> boo
 }
 
 /// "For every two ways of cells from a, each of 0 to c links, with same (or different) recordings at their ends, there are two
-/// from b with the same labels in order, cells related place by place, and ends likewise same (or different)".
+/// from b with the same labels in order, cells related place by place, and ends likewise same (or different)". The clause "counts only
+/// such ends" as have nonzero recordings, "of the ways given and of their counterparts alike" (document 02, request 2026-04).
 fn ways_answered(
     one: &Side,
     other: &Side,
@@ -104,12 +106,12 @@ fn ways_answered(
         .collect();
     for (first, first_answers) in one.ways[a].iter().zip(&answers) {
         for (second, second_answers) in one.ways[a].iter().zip(&answers) {
-            let same = one.recording_at_end(first) == one.recording_at_end(second);
-            let likewise = first_answers
-                .iter()
-                .any(|x| second_answers.iter().any(|y| (x == y) == same));
-            if !likewise {
-                return false;
+            let (x, y) = (one.recording_at_end(first), one.recording_at_end(second));
+            for comparison in COMPARISONS.iter().filter(|asked| asked.passes(x, y)) {
+                let likewise = |x: &u32| second_answers.iter().any(|&y| comparison.passes(*x, y));
+                if !first_answers.iter().any(likewise) {
+                    return false;
+                }
             }
         }
     }

@@ -3,6 +3,7 @@
 
 use super::books::{link, Book, Link};
 use super::random::Random;
+use super::recordings::SILENT;
 use std::collections::{BTreeMap, BTreeSet};
 
 /// Puts the values into any order.
@@ -28,22 +29,23 @@ fn different<T: Ord>(random: &mut Random, count: usize, draw: impl Fn(&mut Rando
     values.into_iter().collect()
 }
 
-/// The book with its cells in any order, and any other recordings of which the same are the same. Each cell is the partner of the
+/// The book with its cells in any order, and any other recordings of which the same are the same and silent ones stay so. Each cell is the partner of the
 /// one it comes from.
 pub fn renumbered(random: &mut Random, book: &Book) -> Book {
     let kinds: BTreeSet<u32> = book.recordings.iter().copied().collect();
-    let kinds: Vec<u32> = kinds.into_iter().collect();
+    let kinds: Vec<u32> = kinds.into_iter().filter(|&kind| kind != SILENT).collect();
     let renamed = different(random, kinds.len(), |random| {
-        let any = random.next() as u32;
-        let few = random.below(2 * kinds.len()) as u32;
+        let any = (random.next() as u32).max(1);
+        let few = 1 + random.below(2 * kinds.len()) as u32;
         random.pick(&[any, few])
     });
     let order = shuffled(random, kinds.len()); // of the new recordings
     let numbers = shuffled(random, book.cells());
-    let mut recordings = vec![0; book.cells()];
+    let mut recordings = vec![SILENT; book.cells()];
     for (x, recording) in book.recordings.iter().enumerate() {
-        let kind = kinds.binary_search(recording).expect("one of its own");
-        recordings[numbers[x] as usize] = renamed[order[kind] as usize];
+        if let Ok(kind) = kinds.binary_search(recording) {
+            recordings[numbers[x] as usize] = renamed[order[kind] as usize];
+        }
     }
     let links = book.links.iter().map(|l| Link {
         from: numbers[l.from as usize],

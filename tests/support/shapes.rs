@@ -1,6 +1,6 @@
 //! Pairs of small random books, by shape.
 
-use super::books::{chain, link, most_links, random_book, ring, Book};
+use super::books::{chain, link, most_links, random_book, ring, silenced, Book};
 use super::partners::most_ways;
 use super::random::Random;
 use super::remade::{any_labels, both, damaged, grown, joined, renumbered, split};
@@ -101,7 +101,8 @@ fn any_book(random: &mut Random, labels: usize) -> Book {
     let most = most_links(cells, labels).min(2 * cells + 1);
     let links = random.between(0, most);
     let recordings = random.pick(&[1, 2, 2, 3, cells]);
-    random_book(random, cells, links, labels, recordings)
+    let book = random_book(random, cells, links, labels, recordings);
+    silenced(random, book)
 }
 
 fn either_way(random: &mut Random, one: Book, other: Book) -> (Book, Book) {
@@ -132,7 +133,7 @@ fn several_by_a_label(random: &mut Random, _: usize) -> (Book, Book) {
         }
         book.links.sort();
         book.links.dedup();
-        book
+        silenced(random, book)
     };
     let book = draw(random);
     let other = match random.one_in(2) {
@@ -148,15 +149,17 @@ fn chains(random: &mut Random, bound: usize) -> (Book, Book) {
     let label = |x| (x % labels) as u16; // by one, or by two in turn
     let cells = random.between(1, 7);
     if random.one_in(2) {
-        let mut apart: Vec<u32> = (0..cells.max(bound + 1) as u32).collect();
-        let book = chain(apart.clone(), label);
-        let place = random.below(apart.len() - bound);
-        apart[place + bound] = apart[place];
-        return either_way(random, book, chain(apart, label));
+        let apart = (1..=cells.max(bound + 1) as u32).collect();
+        let book = silenced(random, chain(apart, label));
+        let mut other = book.clone();
+        let place = random.below(book.cells() - bound);
+        other.recordings[place + bound] = book.recordings[place];
+        return either_way(random, book, other);
     }
     let kinds = random.between(1, 3);
     let any = |random: &mut Random, cells: usize| {
-        chain(random_book(random, cells, 0, 1, kinds).recordings, label)
+        let bare = random_book(random, cells, 0, 1, kinds);
+        chain(silenced(random, bare).recordings, label)
     };
     let book = any(random, cells);
     let other = match random.below(3) {
@@ -175,13 +178,15 @@ fn cycles(random: &mut Random, bound: usize) -> (Book, Book) {
     if random.one_in(4) {
         // Each cell meets its own recording again after so many links, or after twice as many.
         let period = random.between(bound.max(1), bound + 1) as u32;
-        let once = ring((0..period).collect());
-        let twice = ring((0..2 * period).collect());
+        let once = silenced(random, ring((1..=period).collect()));
+        let twice = ring((1..=2 * period).collect());
+        let twice = silenced(random, twice);
         return either_way(random, once, twice);
     }
     let period = random.between(1, 4);
     let kinds = random.between(1, 3);
-    let recurring: Vec<u32> = (0..period).map(|_| random.below(kinds) as u32).collect();
+    let recurring = random_book(random, period, 0, 1, kinds);
+    let recurring = silenced(random, recurring).recordings;
     let any = |random: &mut Random| {
         let cells = period * random.between(1, if period < 3 { 3 } else { 2 });
         let book = ring(recurring.iter().copied().cycle().take(cells).collect());
@@ -199,7 +204,7 @@ fn cycles(random: &mut Random, bound: usize) -> (Book, Book) {
 fn branches(random: &mut Random, bound: usize) -> (Book, Book) {
     let ends = random.between(1, 3);
     let mut book = random_book(random, 1 + ends, 0, 1, 3);
-    book.recordings[0] = 3;
+    book.recordings[0] = 4;
     for label in 1..=random.between(2, 3) as u16 {
         let length = match label {
             1 => bound,
@@ -208,7 +213,7 @@ fn branches(random: &mut Random, bound: usize) -> (Book, Book) {
         let mut from = 0;
         for _ in 1..length {
             let cell = book.cells() as u8;
-            book.recordings.push(cell as u32 + 3);
+            book.recordings.push(cell as u32 + 4);
             book.links.push(link(from, label, cell));
             from = cell;
         }
@@ -217,11 +222,12 @@ fn branches(random: &mut Random, bound: usize) -> (Book, Book) {
             book.links.push(link(from, label, end));
         }
     }
+    let book = silenced(random, book);
     let mut other = book.clone();
     let end = random.between(1, ends) as u8;
     match random.below(4) {
         0 => {}
-        1 => other.recordings[end as usize] = random.below(3) as u32,
+        1 => other.recordings[end as usize] = random.between(1, 3) as u32,
         _ => {
             let last: Vec<usize> = (0..book.links.len())
                 .filter(|&place| (1..=ends).contains(&(book.links[place].to as usize)))
@@ -247,6 +253,7 @@ fn forks(random: &mut Random, bound: usize) -> (Book, Book) {
     book.recordings[0] = 5;
     book.recordings[last as usize] = 5;
     book.recordings[last as usize + 1] = random.pick(&[5, 6, 6]);
+    let mut book = silenced(random, book);
     for x in 1..last + 2 {
         for label in 2..=random.pick(&[1, 2, 3]) {
             book.links.push(link(x, label, last + 2));

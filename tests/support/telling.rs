@@ -1,7 +1,7 @@
 //! Random books of many shapes, and random sheets whose questions tell the cells of a book apart: ways go along the book's
 //! links, and an entry that is true at every cell or at none is drawn again a few times.
 
-use super::books::{link, most_links, random_book, Book};
+use super::books::{link, most_links, random_book, silenced, Book};
 use super::meaning::{entry_cells, Cells};
 use super::random::Random;
 use super::remade::any_labels;
@@ -12,7 +12,7 @@ use std::collections::BTreeSet;
 pub fn any_book(random: &mut Random, cells: usize) -> Book {
     let labels = random.pick(&[1, 1, 2, 3, 5, 256]);
     let most = most_links(cells, labels);
-    let recordings = random.pick(&[1, 2, 2, 3, cells, 1 << 32]);
+    let recordings = random.pick(&[1, 2, 2, 3, cells, u32::MAX as usize]);
     let links = match random.below(5) {
         0 => most,
         1 => random.between(0, most),
@@ -38,11 +38,12 @@ pub fn any_book(random: &mut Random, cells: usize) -> Book {
     book.links = rising.into_iter().take(512).collect();
     if random.one_in(4) {
         // Recordings that have bytes in common.
-        let values = [0, 1, 1 << 8, 1 << 16, 1 << 24, 1 << 31, u32::MAX];
+        let values = [1, 257, 1 << 8, 1 << 16, 1 << 24, 1 << 31, u32::MAX];
         for recording in &mut book.recordings {
             *recording = random.pick(&values);
         }
     }
+    let book = silenced(random, book);
     let [book] = any_labels(random, [book]);
     book
 }

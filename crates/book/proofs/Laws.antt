@@ -1,20 +1,21 @@
 -- What each way out of the functions shows of the definitions of `specs/`. The numbers that the code computed are variables here, with
 -- what is known of them, so that `search` finds them in a need's record.
 use mathlib.Core.Path.{_≡_, refl, sym, ap, _∙_}
-use mathlib.Core.Bool.{Bool, true, false, not, So, cond, _||_}
+use mathlib.Core.Bool.{Bool, true, false, not, So, cond, _&&_, _||_}
 use mathlib.Core.List.{List, []}
 use mathlib.Core.Logic.{⊎-elim}
 use Prim.Native.Nat.{ℕ, zero, suc, _+_, _-_, _*_, _≤_, _<_}
 use native.Mathlib.Nat.{mul-le-mul-left, mul-le-mul-right, eq-or-lt-of-le}
 use native.Mathlib.Numerals.{add-one}
 use native.Mathlib.Omega.{arith}
-use borrow.Author.Tests.{lt-ltb, le-ltb, le-leb, lt-leb, eq-eqb, ne-eqb}
-use lib.Dec.{ltb}
+use borrow.Author.Tests.{lt-ltb, le-ltb, le-leb, lt-leb, eq-eqb, ne-eqb, not-false, not-true}
+use lib.Dec.{eqb, ltb}
 use lib.ListN.{length, take, drop}
 use Rattle.fields.specs.Fields.{field}
 use Rattle.fields.specs.Label.{labelWidth}
 use Rattle.outcome.specs.Outcome.{accepted, refused, code, ofLeftBook, ofCall}
-use Rattle.theory.specs.Graph.{link}
+use Rattle.theory.specs.Graph.{Comparison, same, differ, compared, link}
+use Rattle.book.specs.BookGraph.{dataValue, heard, passes}
 use Rattle.outcome.specs.Refusals.{firstOf}
 use Rattle.outcome.specs.RefusalLaws.{first-none, first-some}
 use Rattle.book.specs.Book.{lengthOf, versionOf, mostVersion, cellsOf, linksOf, recordingPlace, linkWidth, linkStart, linkPlace, linkIn, linkAt, countsRefusal, headRefusal, below, precedes, rises, linkRefusal, linksRefusal, bookRefusal, bookAnswer, bookOutcome, asLink}
@@ -352,3 +353,36 @@ module _ {a : LinksAnswer} (s : List ℕ) (x : ℕ) (d : a ≡ linksAnswer s x) 
       pub part-bytes : take (start + w * n - start) (drop start s) ≡ linksPart s x
       unfolding partOf
       part-bytes = let e : start + w * n - start ≡ w * n = omega arith in rw (← d, p, e, dw)
+
+-- ---- recordings
+module _ (a b : ℕ) where
+  pub heard-none : a ≡ 0 → false ≡ (heard a && heard b)
+  unfolding heard
+  heard-none e = rw (eq-eqb a 0 e)
+
+  pub heard-both : (r : Bool) → (a ≡ 0 → ⊥) → r ≡ not (eqb b 0) → r ≡ (heard a && heard b)
+  unfolding heard
+  heard-both r f d = rw (ne-eqb a 0 f) d
+
+  module _ (h : Bool) (d : h ≡ (heard a && heard b)) where
+    silent : (t : Comparison) → not h ≡ true → false ≡ passes t a b
+    unfolding passes
+    silent t e = rw (← d, not-true h e)
+
+    heard-by : (t : Comparison) → not h ≡ false → (r : Bool) → r ≡ compared dataValue t a b → r ≡ passes t a b
+    unfolding passes
+    heard-by t e r k = rw (← d, not-false h e) k
+
+    pub silent-same : not h ≡ true → false ≡ passes same a b
+    silent-same = silent same
+
+    pub silent-differ : not h ≡ true → false ≡ passes differ a b
+    silent-differ = silent differ
+
+    pub heard-same : not h ≡ false → (r : Bool) → r ≡ eqb a b → r ≡ passes same a b
+    unfolding compared
+    heard-same e r k = heard-by same e r k
+
+    pub heard-differ : not h ≡ false → (r : Bool) → r ≡ not (eqb a b) → r ≡ passes differ a b
+    unfolding compared
+    heard-differ e r k = heard-by differ e r k

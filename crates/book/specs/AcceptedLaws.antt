@@ -13,9 +13,9 @@ use Rattle.fields.specs.LabelLaws.{label-width}
 use Rattle.outcome.specs.RefusalLaws.{first-zero, passed}
 use Rattle.theory.specs.TestLaws.{and-iff, or-iff, sum-iff, eqb-iff, ltb-iff, list-at}
 use Rattle.theory.specs.Search.{list}
-use Rattle.theory.specs.Graph.{Comparison, same, differ, Link, Inside, WellFormed, compared}
+use Rattle.theory.specs.Graph.{Comparison, Link, Inside, WellFormed}
 use Rattle.book.specs.Book.{lengthOf, versionOf, mostVersion, cellsOf, linksOf, recordingAt, linkWidth, linkStart, linkPlace, linkAt, countsRefusal, headRefusal, below, precedes, rises, linkRefusal, linksRefusal, bookRefusal, bookAnswer}
-use Rattle.book.specs.BookGraph.{dataValue, bookRecordings, graphOf}
+use Rattle.book.specs.BookGraph.{passes, bookRecordings, graphOf}
 use Rattle.book.specs.declared.BookAnswer.the-variants.{Accepted, Refused}
 
 not-false : (t : Bool) → not t ≡ false → So t
@@ -210,13 +210,8 @@ book-recording s x h = list-at (cellsOf s) (recordingAt s) x 0 h
 
 -- two cells pass a comparison where their recordings do
 pub book-ends : (s : List ℕ) (t : Comparison) (x y : ℕ) → x < cellsOf s → y < cellsOf s
-    → graphOf s .ends t x y ≡ compared dataValue t (recordingAt s x) (recordingAt s y)
-unfolding compared
-book-ends s t x y h l = through t ∙ ap₂ (compared dataValue t) (book-recording s x h) (book-recording s y l)
-  where
-    through : (t : Comparison) → graphOf s .ends t x y ≡ compared dataValue t (getD (bookRecordings s) x 0) (getD (bookRecordings s) y 0)
-    through same = refl
-    through differ = refl
+    → graphOf s .ends t x y ≡ passes t (recordingAt s x) (recordingAt s y)
+book-ends s t x y h l = ap₂ (passes t) (book-recording s x h) (book-recording s y l)
 
 -- ---- the check's answer
 pub answer-accepted : (s : List ℕ) → bookRefusal s ≡ 0 → bookAnswer s ≡ Accepted (cellsOf s) (linksOf s)

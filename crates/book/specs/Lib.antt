@@ -9,3 +9,4 @@ pub mod Widened
 pub mod WidenedLaws
 pub mod Examples
 pub mod OutcomeLaws
+pub mod HeardLaws

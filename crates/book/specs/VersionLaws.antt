@@ -13,9 +13,8 @@ use Rattle.outcome.specs.Refusals.{firstOf}
 use Rattle.outcome.specs.RefusalLaws.{first-none}
 use Rattle.theory.specs.Search.{list}
 use Rattle.theory.specs.TestLaws.{list-ext}
-use Rattle.theory.specs.Graph.{dataGraph}
 use Rattle.book.specs.Book.{versionOf, cellsOf, linksOf, recordingAt, linkPlace, linkIn, linkAt, headRefusal, precedes, rises, linkRefusal, linksRefusal, bookRefusal}
-use Rattle.book.specs.BookGraph.{dataValue, bookRecordings, bookLinks, graphOf}
+use Rattle.book.specs.BookGraph.{passes, bookRecordings, bookLinks, graphOf}
 use Rattle.book.specs.Contents.{SameContents}
 use Rattle.book.specs.AcceptedLaws.{Headed, headed-passes, accepted-links}
 
@@ -26,7 +25,8 @@ label-fits s b k = field-lt (labelWidth (versionOf s)) s (linkPlace s k + 1) b
 
 -- "Version 1 is still read, its labels as the same numbers": such books are one graph
 pub same-graph : (s t : List ℕ) → SameContents s t → graphOf s ≡ graphOf t
-same-graph s t d = λ i. dataGraph (d .cells i) (links i) (λ x. dataValue (getD (recordings i) x 0))
+same-graph s t d =
+    λ i. record { size = d .cells i; links = links i; ends = λ k x y. passes k (getD (recordings i) x 0) (getD (recordings i) y 0) }
   where
     recordings : bookRecordings s ≡ bookRecordings t
     recordings = list-ext (cellsOf s) (recordingAt s) (recordingAt t) (d .recordings) ∙ ap (λ n. list n (recordingAt t)) (d .cells)

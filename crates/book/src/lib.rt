@@ -1,12 +1,13 @@
 // Books (01, "Book bytes"): checked once, then read by parts.
+ghost use mathlib.Core.Bool.{_&&_};
 ghost use mathlib.Core.Path.{_≡_};
 ghost use Prim.Native.Nat.{_+_, _-_, _*_, _≤_, _<_};
 ghost use lib.Dec.{ltb};
 ghost use lib.ListN.{length};
-ghost use Rattle.theory.specs.Graph.{compared, same, differ};
+ghost use Rattle.theory.specs.Graph.{same, differ};
 ghost use Rattle.outcome.specs.Outcome.{code};
 ghost use Rattle.book.specs.Book.{versionOf, cellsOf, linksOf, recordingPlace, recordingAt, linkWidth, linkStart, linkPlace, linkAt, countsRefusal, headRefusal, precedes, linkRefusal, linksRefusal, bookRefusal, bookAnswer, bookOutcome, asLink};
-ghost use Rattle.book.specs.BookGraph.{dataValue};
+ghost use Rattle.book.specs.BookGraph.{heard, passes};
 ghost use Rattle.book.specs.BookLinks.{linksBefore, linksAfter, firstLink, RangeOut, partFrom, linksAnswer, linksPart, linksOutcome};
 
 // A cell of the left book.
@@ -15,7 +16,7 @@ pub struct LeftCell(pub u8);
 // A cell of the right book.
 pub struct RightCell(pub u8);
 
-// A recording's number. Recordings are compared by `same` and `differ` only.
+// A recording's number. Recordings are compared by `same` and `differ` only, which a silent one never passes.
 pub struct Recording(pub u32);
 
 // A link: from a cell, by a label, to a cell.
@@ -276,18 +277,34 @@ pub fn recording_of(bytes: &[u8], cell: usize) -> Recording
     recording_at(bytes, cell)
 }
 
-// Whether two recordings are same.
-pub fn same(a: Recording, b: Recording) -> bool
-    ensures { λ r. ⌜ r ≡ compared dataValue same (a .0) (b .0) ⌝ }
+// Whether both recordings have a sound: recording 0 is silent. Nothing else asks whether one is.
+fn both_heard(a: Recording, b: Recording) -> bool
+    ensures { λ r. ⌜ r ≡ (heard (a .0) && heard (b .0)) ⌝ }
 {
+    if a.0 == 0 {
+        return false;
+    }
+    b.0 != 0
+}
+
+// Whether two recordings are heard and same.
+pub fn same(a: Recording, b: Recording) -> bool
+    ensures { λ r. ⌜ r ≡ passes same (a .0) (b .0) ⌝ }
+{
+    if !both_heard(a, b) {
+        return false;
+    }
     a.0 == b.0
 }
 
-// Whether two recordings differ.
-pub fn differ(a: Recording, b: Recording) -> bool
-    ensures { λ r. ⌜ r ≡ compared dataValue differ (a .0) (b .0) ⌝ }
+// Whether two recordings are heard and differ.
+pub fn differ(x: Recording, y: Recording) -> bool
+    ensures { λ r. ⌜ r ≡ passes differ (x .0) (y .0) ⌝ }
 {
-    a.0 != b.0
+    if !both_heard(x, y) {
+        return false;
+    }
+    x.0 != y.0
 }
 
 // Link k.

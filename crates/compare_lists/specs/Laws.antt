@@ -19,7 +19,7 @@ use Rattle.book.specs.BookGraph.{graphOf}
 use Rattle.book.specs.AcceptedLaws.{book-sizes, book-graph}
 use Rattle.book.specs.VersionLaws.{label-fits}
 use Rattle.sheet.specs.Sheet.{mostVersion, mostBound}
-use Rattle.search.specs.BookReasonLaws.{compared-symmetric}
+use Rattle.search.specs.BookReasonLaws.{passes-symmetric}
 use Rattle.compare_laws.specs.Entries.{Narrow}
 use Rattle.compare_laws.specs.Refining.{Comparable}
 use Rattle.compare_lists.specs.BookSetting.{sheetVersion, settingOf}
@@ -76,7 +76,7 @@ pub books-comparable : (x : Sides) (l r : List ℕ) (c : ℕ) → Bytes l → By
 books-comparable x l r c bl br el er h =
     record {
       formed = (book-graph l el, book-graph r er);
-      symmetric = (compared-symmetric _, compared-symmetric _);
+      symmetric = (λ t x y. passes-symmetric t _ _, λ t x y. passes-symmetric t _ _);
       narrow = (narrow l _ bl (sheet-left l r el), narrow r _ br (sheet-right l r er));
       version = sheet-known l r;
       some = (book-sizes l el .some, book-sizes r er .some);

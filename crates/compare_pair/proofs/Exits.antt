@@ -1,8 +1,8 @@
 -- What each way out of `settle` shows of the definitions of `specs/`. The numbers that the code computed are variables here, with what is
 -- known of them, so that `search` finds them in a need's record.
-use mathlib.Core.Bool.{Bool, true, false, not}
+use mathlib.Core.Bool.{Bool, true, false}
 use mathlib.Core.List.{List}
-use mathlib.Core.Path.{_≡_, refl, sym, ap, _∙_}
+use mathlib.Core.Path.{_≡_, refl, ap, _∙_}
 use Prim.Native.Nat.{ℕ, suc, _+_, _*_, _≤_, _<_}
 use native.Mathlib.Nat.{mul-le-mul}
 use native.Mathlib.Omega.{arith}
@@ -24,11 +24,6 @@ use Rattle.compare_entries.specs.Parting.{listed, causeIn, Puttable, PartFits, 
 use Rattle.compare_entries.specs.PartingLaws.{listed-is, answer-puttable}
 use Rattle.compare_pair.specs.declared.Case.{Case}
 use Rattle.compare_pair.specs.Settling.{Chart, basis, Round, Standing, Stands, Goes, placeOf, Undecided}
-
--- a test that is taken the other way round
-pub not-true : (b : Bool) → not b ≡ true → b ≡ false
-not-true true e = sym e
-not-true false e = refl
 
 module _ {l r : Chart} {rows columns : List ℕ} {x : Lists} {here : Case} (open′ : Undecided (x .map) here) where
   -- ---- of a setting that the lists show

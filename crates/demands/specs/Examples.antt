@@ -1,17 +1,20 @@
--- Worked comparisons one-way (02, 2026-03), computed: which left cells are covered by which right ones.
+-- Worked comparisons, computed: one-way (02, 2026-03), which left cells are covered by which right ones; and with silent cells (02, 2026-04).
 use mathlib.Core.Bool.{Bool, true, false}
 use mathlib.Core.List.{List, [], _∷_, map}
 use mathlib.Core.Path.{_≡_, refl}
 use Prim.Native.Nat.{ℕ}
+use lib.ListN.{getD}
 use Rattle.fields.specs.Fields.{field}
 use Rattle.fields.specs.Label.{labelWidth}
 use Rattle.theory.specs.Search.{any, every, list}
-use Rattle.theory.specs.Graph.{Graph, link, dataGraph, comparisons, compared, has}
+use Rattle.theory.specs.Graph.{Graph, Link, link, dataGraph, same, comparisons, compared, has}
 use Rattle.theory.specs.Path.{end, out, onward, paths}
 use Rattle.theory.specs.Bisimulation.{Sides, oneSided, twoSided}
 use Rattle.theory.specs.Rounds.{Table, follow, met, twoPaths, oneLink, zigs, zags, table, round, rounds, settled}
+use Rattle.theory.specs.Parting.{byPaths}
+use Rattle.theory.specs.Choosing.{some, orElse, when, firstIn, pathsOf, linkChoice, pairChoice, lengthsChoice, totalChoice, pathsChoice, chosen}
 use Rattle.book.specs.Book.{recordingAt, linkIn, linkAt}
-use Rattle.book.specs.BookGraph.{graphOf}
+use Rattle.book.specs.BookGraph.{heard, passes, graphOf}
 use Rattle.book.specs.Examples.{leftBook, rightBook}
 
 -- Two graphs, a bound and the sides that count, and what they relate.
@@ -43,6 +46,10 @@ straight = dataGraph 3 (link 0 1 1 ∷ link 1 2 2 ∷ []) (λ _. 5)
 abbrev stopping : Graph
 stopping = dataGraph 4 (link 0 1 1 ∷ link 0 1 2 ∷ link 1 2 3 ∷ []) (λ _. 5)
 
+-- A graph with these recordings, compared as a book's are.
+abbrev spoken : ℕ → List Link → List ℕ → Graph
+spoken size links recordings = record { size = size; links = links; ends = λ t x y. passes t (getD recordings x 0) (getD recordings y 0) }
+
 -- The comparisons.
 unfoldable pub rows : List Row
 rows =
@@ -57,10 +64,20 @@ rows =
     -- two that cover each other and are not matched: "the converse is not claimed"
     ∷ row oneSided stopping straight 1 ((y ∷ n ∷ n ∷ []) ∷ (n ∷ y ∷ n ∷ []) ∷ (y ∷ y ∷ y ∷ []) ∷ (y ∷ y ∷ y ∷ []) ∷ [])
     ∷ row oneSided straight stopping 1 ((y ∷ n ∷ n ∷ n ∷ []) ∷ (n ∷ y ∷ n ∷ n ∷ []) ∷ (y ∷ y ∷ y ∷ y ∷ []) ∷ [])
+    -- a silent cell and one with a sound, two silent cells; two cells that lead on by label 1, to a cell of their own recording and to a silent one
+    ∷ row twoSided (spoken 1 [] (0 ∷ [])) (spoken 1 [] (5 ∷ [])) 0 ((n ∷ []) ∷ [])
+    ∷ row twoSided (spoken 1 [] (0 ∷ [])) (spoken 1 [] (0 ∷ [])) 0 ((y ∷ []) ∷ [])
+    ∷ row oneSided (spoken 1 [] (0 ∷ [])) (spoken 1 [] (5 ∷ [])) 0 ((y ∷ []) ∷ [])
+    ∷ row oneSided (spoken 2 (link 0 1 1 ∷ []) (5 ∷ 5 ∷ [])) (spoken 2 (link 0 1 1 ∷ []) (5 ∷ 0 ∷ [])) 1 ((n ∷ n ∷ []) ∷ (y ∷ n ∷ []) ∷ [])
     ∷ row twoSided stopping straight 1 ((n ∷ n ∷ n ∷ []) ∷ (n ∷ y ∷ n ∷ []) ∷ (n ∷ n ∷ y ∷ []) ∷ (n ∷ n ∷ y ∷ []) ∷ [])
     ∷ []
 
 -- Every table is the one wanted.
 pub rows-hold : map (λ (r : Row). settled (r .sides) (r .left) (r .right) (r .bound)) rows ≡ map (λ (r : Row). r .wanted) rows
-unfolding rows leftBook rightBook recordingAt linkAt linkIn labelWidth field settled rounds round table zigs zags oneLink twoPaths comparisons met follow any every list out has paths onward end compared
+unfolding rows leftBook rightBook recordingAt linkAt linkIn labelWidth field settled rounds round table zigs zags oneLink twoPaths comparisons met follow any every list out has paths onward end compared heard passes
 rows-hold = refl
+
+-- A cell with a sound is told from a silent one at bound 0 by "same: stay, stay".
+pub told-by-same : chosen (spoken 1 [] (5 ∷ [])) (spoken 1 [] (0 ∷ [])) 0 (λ _ _. true) 0 0 ≡ some (byPaths same [] [])
+unfolding heard passes compared comparisons any every list out has paths onward end met follow orElse when firstIn pathsOf linkChoice pairChoice lengthsChoice totalChoice pathsChoice chosen
+told-by-same = refl

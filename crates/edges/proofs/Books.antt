@@ -11,11 +11,11 @@ use lib.Bits.{bitOr}
 use lib.ListN.{length, set, length-set}
 use lib.Seq.{getD-set-same, getD-set-other}
 use Rattle.theory.specs.TestLaws.{list-ext}
-use Rattle.theory.specs.Graph.{Comparison, same, differ, compared}
+use Rattle.theory.specs.Graph.{Comparison, same, differ}
 use Rattle.words.specs.Words.{wordOf}
 use Rattle.words.specs.Laws.{wordOf-suc}
 use Rattle.book.specs.Book.{cellsOf, linksOf, recordingAt, linkAt, bookRefusal, asLink}
-use Rattle.book.specs.BookGraph.{dataValue}
+use Rattle.book.specs.BookGraph.{passes}
 use Rattle.book.specs.AcceptedLaws.{book-sizes, book-link, book-ends}
 use Rattle.book.specs.declared.BookLink.{BookLink}
 use Rattle.edges.specs.Edges.{edgeAt, emptyRows}
@@ -81,10 +81,10 @@ module _ (s fs ls ts : List ℕ) (k : ℕ) (i : Filled s fs ls ts k) where
 
 -- ---- a comparison of two recordings
 module _ (asked : Asked) (a b : ℕ) (r : Bool) where
-  pub passes-same : asked ≡ Same → r ≡ compared dataValue same a b → r ≡ compared dataValue (comparisonOf asked) a b
+  pub passes-same : asked ≡ Same → r ≡ passes same a b → r ≡ passes (comparisonOf asked) a b
   passes-same e d = rw e d
 
-  pub passes-differ : asked ≡ Differ → r ≡ compared dataValue differ a b → r ≡ compared dataValue (comparisonOf asked) a b
+  pub passes-differ : asked ≡ Differ → r ≡ passes differ a b → r ≡ passes (comparisonOf asked) a b
   passes-differ e d = rw e d
 
 -- ---- the cells that pass with a cell, one turn at a time
@@ -94,7 +94,7 @@ module _ (s : List ℕ) (t : Comparison) where
   word-none x = refl
 
   module _ (n x y : ℕ) (dn : n ≡ cellsOf s) (hx : x < cellsOf s) (hy : y < n) (a b : ℕ) (da : a ≡ recordingAt s x) (db : b ≡ recordingAt s y)
-      (r : Bool) (dr : r ≡ compared dataValue t a b) (out next : ℕ) (i : out ≡ passingTo s t x y) where
+      (r : Bool) (dr : r ≡ passes t a b) (out next : ℕ) (i : out ≡ passingTo s t x y) where
     more : passingTo s t x (y + 1) ≡ cond r (bitOr out (2 ^ y)) out
     unfolding passingTo
     more = rw (add-one y, i) (wordOf-suc y _ ∙ rw (book-ends s t x y hx (omega arith), ← da, ← db, ← dr))

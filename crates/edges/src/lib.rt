@@ -4,10 +4,9 @@ ghost use mathlib.Core.Path.{_≡_};
 ghost use mathlib.Core.Bool.{cond};
 ghost use Prim.Native.Nat.{_^_, _<_};
 ghost use lib.ListN.{length};
-ghost use Rattle.theory.specs.Graph.{compared};
 ghost use Rattle.words.specs.Words.{bit};
 ghost use Rattle.book.specs.Book.{cellsOf, bookRefusal};
-ghost use Rattle.book.specs.BookGraph.{dataValue};
+ghost use Rattle.book.specs.BookGraph.{passes};
 ghost use Rattle.edges.specs.Edges.{edges, Held, image, gather, emptyRows, anyPasses};
 ghost use Rattle.edges.specs.BookEdges.{Loaded, comparisonOf, passingTo, passing};
 use book::Recording;
@@ -113,7 +112,7 @@ pub fn any_passes(first: u64, second: u64, rows: &[u64; 64]) -> bool
 
 // Whether two recordings pass the comparison.
 fn passes(comparison: Comparison, a: Recording, b: Recording) -> bool
-    ensures { λ r. ⌜ r ≡ compared dataValue (comparisonOf comparison) (a .0) (b .0) ⌝ }
+    ensures { λ r. ⌜ r ≡ passes (comparisonOf comparison) (a .0) (b .0) ⌝ }
 {
     match comparison {
         Comparison::Same => book::same(a, b),

@@ -12,6 +12,7 @@ use Rattle.theory.specs.Path.{end, out, onward, paths}
 use Rattle.theory.specs.Rounds.{follow, met, twoPaths, oneLink, zigs, zags, table, round, rounds, settled}
 use Rattle.words.specs.Words.{tally, wordOf}
 use Rattle.book.specs.Book.{recordingAt, linkIn, linkAt, countsRefusal, headRefusal, below, precedes, rises, linkRefusal, linksRefusal, bookRefusal}
+use Rattle.book.specs.BookGraph.{heard, passes}
 use Rattle.book.specs.Examples.{leftBook, rightBook}
 use Rattle.text.specs.Text.{ascii, numeral, labelled, ending}
 use Rattle.listing_lines.specs.Lines.{rowLines, pairsIn, pairLines}
@@ -57,5 +58,5 @@ rows =
 
 -- Every listing is the one wanted.
 pub rows-hold : map (λ (r : Row). listingOf (r .input)) rows ≡ map (λ (r : Row). ascii (r .listing)) rows
-unfolding rows leftBook rightBook listingOf boundRefused leftLength bookLines acceptedLines manyCells pairLines rowLines pairsIn labelled ending numeral tally wordOf bookRefusal headRefusal countsRefusal linksRefusal linkRefusal rises precedes below recordingAt linkAt linkIn labelWidth field settled rounds round table zigs zags oneLink twoPaths comparisons met follow any every list out has paths onward end compared
+unfolding rows leftBook rightBook listingOf boundRefused leftLength bookLines acceptedLines manyCells pairLines rowLines pairsIn labelled ending numeral tally wordOf bookRefusal headRefusal countsRefusal linksRefusal linkRefusal rises precedes below recordingAt linkAt linkIn labelWidth field settled rounds round table zigs zags oneLink twoPaths comparisons met follow any every list out has paths onward end compared heard passes
 rows-hold = refl

@@ -13,7 +13,7 @@ use Rattle.theory.specs.Graph.{Comparison, same, differ, compared}
 use Rattle.words.specs.Words.{bit, wordOf}
 use Rattle.words.specs.Laws.{bit-zero, bit-wordOf, bit-wordOf-lt}
 use Rattle.book.specs.Book.{cellsOf}
-use Rattle.book.specs.BookGraph.{graphOf}
+use Rattle.book.specs.BookGraph.{dataValue, passes, graphOf}
 use Rattle.book.specs.AcceptedLaws.{book-sizes, book-graph, cell-few}
 use Rattle.edges.specs.Edges.{rowsTo}
 use Rattle.edges.specs.BookEdges.{passingTo, passingRows, passing}
@@ -25,7 +25,7 @@ use Rattle.search.specs.Reasons.{numberOf, Charted}
 use Rattle.search.specs.BookReasons.{Read}
 
 -- a comparison of data values is the same from both sides
-pub compared-symmetric : (value : ℕ → ℕ) (t : Comparison) (x y : ℕ) → compared value t x y ≡ true → compared value t y x ≡ true
+compared-symmetric : (value : ℕ → ℕ) (t : Comparison) (x y : ℕ) → compared value t x y ≡ true → compared value t y x ≡ true
 unfolding compared
 compared-symmetric value same x y e = eqb-turn (value y) (value x) ∙ e
 compared-symmetric value differ x y e = ap not (eqb-turn (value y) (value x)) ∙ e
@@ -35,6 +35,18 @@ compared-alike : (value : ℕ → ℕ) (t : Comparison) (x y z : ℕ) → compar
 unfolding compared
 compared-alike value same x y z e f = rw (eqb-true (value x) (value y) e) f
 compared-alike value differ x y z e f = rw (eqb-true (value x) (value y) e) f
+
+-- so are those of two recordings, which ask besides that both are heard
+pub passes-symmetric : (t : Comparison) (a b : ℕ) → passes t a b ≡ true → passes t b a ≡ true
+unfolding passes
+passes-symmetric t a b e = let ((h, k), p) = simp and-iff at e in simp and-iff ((k, h), compared-symmetric dataValue t a b p)
+
+passes-alike : (t : Comparison) (a b c : ℕ) → passes same a b ≡ true → passes t b c ≡ true → passes t a c ≡ true
+unfolding passes
+passes-alike t a b c e f =
+    let ((h, _), p) = simp and-iff at e in
+    let ((_, k), q) = simp and-iff at f in
+    simp and-iff ((h, k), compared-alike dataValue t a b c p q)
 
 module _ (s fs ls ts starts ends : List ℕ) (d : Read s fs ls ts starts ends) where
   -- row x of a comparison, in the table
@@ -63,11 +75,11 @@ module _ (s fs ls ts starts ends : List ℕ) (d : Read s fs ls ts starts ends) w
         let (k, n) = number t l in
         let (a, _, e′) = row-iff same x y lx .0 e in
         let (_, b, f′) = row-iff k y z ly .0 (rw n f) in
-        rw (← n) (row-iff k x z lx .1 (a, b, compared-alike _ k x y z e′ f′));
+        rw (← n) (row-iff k x z lx .1 (a, b, passes-alike k _ _ _ e′ f′));
     turned = λ t x y l lx ly e.
         let (k, n) = number t l in
         let (a, b, e′) = row-iff k x y lx .0 (rw n e) in
-        rw (← n) (row-iff k y x ly .1 (b, a, compared-symmetric _ k x y e′));
+        rw (← n) (row-iff k y x ly .1 (b, a, passes-symmetric k _ _ e′));
   }
     where
       number : (t : ℕ) → t < 2 → (k : Comparison) × (numberOf k ≡ t)
@@ -85,7 +97,7 @@ module _ (s fs ls ts starts ends : List ℕ) (d : Read s fs ls ts starts ends) w
       rows = λ t x y lx ly.
           ap (λ (w : ℕ). bit w y) (row-is t x (cell-few s x (d .accepted) lx) ∙ passing-rows s t (d .accepted) .row x lx)
           ∙ bit-wordOf-lt (cellsOf s) (graphOf s .ends t x) y ly;
-      symmetric = compared-symmetric _;
+      symmetric = λ t x y. passes-symmetric t _ _;
     };
     opened = book-opened s fs ls ts starts (d .accepted) (d .loaded) (d .table);
     valued = read-valued;

@@ -27,3 +27,4 @@ pub mod ChoosingLaws
 pub mod MeasureExamples
 pub mod Examples
 pub mod Theorems
+pub mod EndsLaws

@@ -1,7 +1,7 @@
 -- `compare_pair::settle` meets its contract.
 use native.Mathlib.Omega.{arith}
-use borrow.Author.Tests.{not-false}
-use Rattle.compare_pair.proofs.Exits.{bounded, place-small, ahead-ready, ahead-valued, ahead-fits, ahead-goes, left-goes, covered-goes, back-ready, back-valued, back-fits, back-goes, stays-goes, not-true}
+use borrow.Author.Tests.{not-false, not-true}
+use Rattle.compare_pair.proofs.Exits.{bounded, place-small, ahead-ready, ahead-valued, ahead-fits, ahead-goes, left-goes, covered-goes, back-ready, back-valued, back-fits, back-goes, stays-goes}
 use borrow.Author.Needs.{needs}
 use Rattle.compare_pair.proofs.settle.Statement.{statement}
 use Rattle.compare_pair.proofs.settle.Tie as tie
