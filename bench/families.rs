@@ -149,12 +149,16 @@ pub fn hard() -> Vec<Family> {
 
 /// Books that take many rounds one-way, in each of which many pairs stay.
 fn many_rounds(random: &mut Random) -> Vec<Family> {
-    // At bounds 0 and 1 a round parts one pair, and the next the pair before it: 31 × 32 rounds.
-    let mut families = vec![Family {
-        name: "rings of 31 and 32, one cell marked, and all but one".to_string(),
-        left: marked_ring(31, |x| x == 0),
-        right: marked_ring(32, |x| x != 0),
-    }];
+    // At bounds 0 and 1 a round parts one pair, and the next the pair before it: as many rounds as pairs.
+    let rings = [31, 63].map(|cells| Family {
+        name: format!(
+            "rings of {cells} and {}, one cell marked, and all but one",
+            cells + 1
+        ),
+        left: marked_ring(cells, |x| x == 0),
+        right: marked_ring(cells + 1, |x| x != 0),
+    });
+    let mut families = Vec::from(rings);
     for (cells, labels) in [(8, 56), (32, 15), (48, 10)] {
         let mut book = deterministic(random, vec![5; cells], labels);
         book.recordings.resize(64, 5);

@@ -2,7 +2,7 @@
 //! pairs of paths. They leave the same pairs unparted, and every comparison has the same number of steps in all.
 
 use crate::expected::Asked;
-use crate::plain_compare::{self, BY_CELLS, CLASHED, FULL, QUIET, UNKNOWN};
+use crate::plain_compare::{self, BY_CELLS, CLASHED, FULL, IDLE, QUIET, UNKNOWN};
 use crate::support::call::Call;
 use crate::support::loops::{Dropped, Reason};
 use crate::support::outcome::Outcome;
@@ -23,9 +23,10 @@ pub struct Written<'a> {
     pub room: &'a [u8],
 }
 
-/// What the plain version counts: how often a part was full; for how many pairs one tip a cell told that they stay; and for how many
-/// others the table of what comparisons see told that no classes clash, or that some do, or was full.
-static COUNTS: [(&str, &AtomicUsize); 5] = [
+/// What the plain version counts: how many pairs were left out since none near them was parted; how often a part was full; for how many pairs one tip a cell
+/// told that they stay; and for how many others the table of what comparisons see told that no classes clash, or that some do, or was full.
+static COUNTS: [(&str, &AtomicUsize); 6] = [
+    ("pairs left out", &IDLE),
     ("full parts", &FULL),
     ("pairs told by cells", &BY_CELLS),
     ("quiet pairs", &QUIET),

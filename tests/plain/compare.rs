@@ -1,5 +1,5 @@
-//! Compare in plain Rust, by the library's method: the same rounds over the same pairs in the same order, without those that a row
-//! before tells to stay where both sides count; the same search over classes of paths in tables, without covered tips, for whether there is a reason, and
+//! Compare in plain Rust, by the library's method: the same rounds over the same pairs in the same order, without those near which the round before
+//! parted none, and those that a row before tells to stay where both sides count; the same search over classes of paths in tables, without covered tips, for whether there is a reason, and
 //! then link by link for the first. So map and sheet are the library's to the byte, with tables of whatever size.
 
 use crate::support::checks::check_book;
@@ -92,6 +92,21 @@ impl Graph {
         }
     }
 
+    /// The cells that at most so many links lead from to a cell of the word.
+    fn near(&self, mut word: u64, links: usize) -> u64 {
+        for _ in 0..links {
+            let mut more = 0;
+            for x in 0..self.cells {
+                let out = self.starts[x] as usize..self.starts[x + 1] as usize;
+                if self.to[out].iter().any(|&to| word >> to & 1 == 1) {
+                    more |= 1 << x;
+                }
+            }
+            word |= more;
+        }
+        word
+    }
+
     /// The labels of the links, each once, and how many they are.
     fn labels_of(&self) -> ([u16; 512], usize) {
         let (mut list, mut count) = ([0; 512], 0);
@@ -124,6 +139,9 @@ const TIPS: usize = 64;
 
 /// How often a part was full, for the tests.
 pub static FULL: AtomicUsize = AtomicUsize::new(0);
+
+/// How often a pair was left out since the round before parted none near it, for the tests.
+pub static IDLE: AtomicUsize = AtomicUsize::new(0);
 
 /// How often one tip a cell told that a pair stays; and where it did not, how often no two classes of the table of what comparisons see
 /// clash, how often some do, and how often it was full, for the tests.
@@ -723,9 +741,27 @@ fn first_row(map: &[u16], m: usize, i: usize, j: usize) -> usize {
     (0..i).find(|x| map[x * m + j] == 0).unwrap_or(i)
 }
 
+/// The left and the right cells that a round has to look at: a pair stays, unless both of its cells are among them.
+#[derive(Clone, Copy)]
+struct Live {
+    left: u64,
+    right: u64,
+}
+
+impl Live {
+    fn has(&self, i: usize, j: usize) -> bool {
+        self.left >> i & 1 == 1 && self.right >> j & 1 == 1
+    }
+}
+
+/// The cells whose row is not what it was.
+fn changed(before: &[u64; 64], after: &[u64; 64]) -> u64 {
+    (0..64).fold(0, |word, i| word | ((before[i] != after[i]) as u64) << i)
+}
+
 /// One round: every pair whose place holds 0, under the relation and by the descriptions that the round began with. Where both sides count,
 /// rows that share a pair that stays are equal: where the twin of a row, a row before that shares one, tells that a pair stays, it is not
-/// searched.
+/// searched. The answer is what the next round has to look at.
 fn round<const PLACES: usize>(
     sides: Sides,
     left: &Graph,
@@ -734,7 +770,8 @@ fn round<const PLACES: usize>(
     map: &mut [u16],
     sheet: &mut Sheet,
     described: &mut Described,
-) {
+    live: Live,
+) -> Live {
     let (n, m) = (left.cells, right.cells);
     let (rows, columns) = relation(map, n, m);
     let ahead = Search::<PLACES> {
@@ -753,7 +790,9 @@ fn round<const PLACES: usize>(
         for j in 0..m {
             let place = i * m + j;
             let follows = twin < i && map[twin * m + j] == 0;
-            if map[place] == 0 && !follows {
+            if map[place] == 0 && !live.has(i, j) {
+                IDLE.fetch_add(1, Ordering::Relaxed);
+            } else if map[place] == 0 && !follows {
                 let place = &mut map[place];
                 if let Some(reason) = ahead.reason(i, j, bound) {
                     sheet.put_reason(left, &reason, &began.left);
@@ -767,6 +806,11 @@ fn round<const PLACES: usize>(
                 twin = first_row(map, m, i, j);
             }
         }
+    }
+    let (rows_after, columns_after) = relation(map, n, m);
+    Live {
+        left: left.near(changed(&rows, &rows_after), bound.max(1)),
+        right: right.near(changed(&columns, &columns_after), bound.max(1)),
     }
 }
 
@@ -815,9 +859,22 @@ pub fn compare<const PLACES: usize>(
         left: [0; 64],
         right: [0; 64],
     };
+    let mut live = Live {
+        left: !0,
+        right: !0,
+    };
     loop {
         let entries = sheet.next;
-        round::<PLACES>(sides, &left, &right, bound, map, &mut sheet, &mut described);
+        live = round::<PLACES>(
+            sides,
+            &left,
+            &right,
+            bound,
+            map,
+            &mut sheet,
+            &mut described,
+            live,
+        );
         if sheet.next == entries {
             break;
         }

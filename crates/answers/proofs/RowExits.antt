@@ -1,17 +1,15 @@
 -- What each way out of Row shows of the definitions of `specs/`. The numbers that the code computed are variables here, with what is known
 -- of them, so that `search` finds them in a need's record.
-use mathlib.Core.Bool.{cond}
 use mathlib.Core.List.{List}
-use mathlib.Core.Path.{_≡_, refl, sym, ap, ap₂, _∙_}
+use mathlib.Core.Path.{_≡_, sym, ap, ap₂, _∙_}
 use Prim.Native.Nat.{ℕ, suc, _+_, _*_, _/_, _^_, _≤_, _<_}
 use native.Mathlib.Nat.{le-div-iff-mul-le, div-lt-iff-lt-mul, suc-mul}
-use native.Mathlib.Numerals.{add-one}
 use native.Mathlib.Omega.{arith}
 use borrow.Author.Tests.{lt-ltb, le-ltb, eq-eqb, ne-eqb}
 use lib.Bits.{bitOr}
 use lib.ListN.{length, getD}
 use Rattle.words.specs.Words.{bit, tally, wordOf, IsCount}
-use Rattle.words.specs.Laws.{wordOf-suc}
+use Rattle.words.specs.Laws.{word-in, word-out}
 use Rattle.answers.specs.Row.{rowRefusal, zeroFrom, rowWord, rowCount, rowAnswer}
 use Rattle.answers.specs.RowLaws.{Whole, row-whole, whole-row, rowCount-bits, row-given, row-answered}
 use Rattle.answers.specs.declared.RowAnswer.{RowAnswer}
@@ -49,14 +47,11 @@ module _ (map : List ℕ) (m i : ℕ) where
 -- ---- the word of a row, one place at a time
 -- r is the word after place j
 module _ (map : List ℕ) (base j word r : ℕ) (w : word ≡ wordOf j (zeroFrom map base)) where
-  next : r ≡ cond (zeroFrom map base j) (bitOr word (2 ^ j)) word → r ≡ wordOf (j + 1) (zeroFrom map base)
-  next e = e ∙ sym (rw add-one (wordOf-suc j (zeroFrom map base) ∙ rw (← w) refl))
-
   pub zero-there : getD map (base + j) 0 ≡ 0 → {x : ℕ} → x ≡ bitOr word (2 ^ j) → r ≡ x → r ≡ wordOf (j + 1) (zeroFrom map base)
-  zero-there z {x} e d = next (d ∙ e ∙ rw (eq-eqb (getD map (base + j) 0) 0 z))
+  zero-there z {x} e d = word-in (zeroFrom map base) j word r w (eq-eqb (getD map (base + j) 0) 0 z) x e d
 
   pub zero-absent : (getD map (base + j) 0 ≡ 0 → ⊥) → r ≡ word → r ≡ wordOf (j + 1) (zeroFrom map base)
-  zero-absent f d = next (d ∙ rw (ne-eqb (getD map (base + j) 0) 0 f))
+  zero-absent f d = word-out (zeroFrom map base) j word r w (ne-eqb (getD map (base + j) 0) 0 f) d
 
 -- after the last place
 pub row-done : (map : List ℕ) (base m j word : ℕ) → word ≡ wordOf j (zeroFrom map base) → j ≤ m → m ≤ j → word ≡ wordOf m (zeroFrom map base)

@@ -147,12 +147,15 @@ module _ {s : Setting} (g : Comparable s) where
         next-state ∙ settle-stays s (relationAfter s k) a b (stateAt s k p) g
         (λ e. absurd (h (eqb-true _ 0 (refined-here .waiting a b o u (le-refl _) ∙ e))))
 
+    -- the round keeps the pair, if it was not parted before
+    pub kept-next : (So (relationAfter s k a b) → So (relationAfter s (suc k) a b)) → stateAt s k (suc p) ≡ stateAt s k p
+    kept-next f =
+        next-state ∙ settle-stays s (relationAfter s k) a b (stateAt s k p) g (λ e. let (_, h, h′) = kept-clauses s k a b (f e) in (h, h′))
+
     -- two-sided: the row of a and that of x before it share y, and x and b are not parted: a and b are not
     pub shared-next : s .sides ≡ twoSided → (x y : ℕ) → x < a → y < b → placed (s .right .size) (stateAt s k p .map) a y ≡ 0 → placed (s .right .size) (stateAt s k p .map) x y ≡ 0
         → placed (s .right .size) (stateAt s k p .map) x b ≡ 0 → stateAt s k (suc p) ≡ stateAt s k p
-    shared-next both x y i j d e f =
-        next-state ∙ settle-stays s (relationAfter s k) a b (stateAt s k p) g
-        (λ _. let (_, h, h′) = kept-clauses s k a b (shares-related g both refined-here a b x y refl o u i j d e f) in (h, h′))
+    shared-next both x y i j d e f = kept-next (λ _. shares-related g both refined-here a b x y refl o u i j d e f)
 
     module _ (h : placed (s .right .size) (stateAt s k p .map) a b ≡ 0) where
       -- the place holds 0: the pair is judged

@@ -11,6 +11,7 @@ use lib.ListN.{length, getD, replicate}
 use lib.Seq.{length-sets}
 use Rattle.theory.specs.Bisimulation.{sidesOf}
 use Rattle.theory.specs.Graph.{same, differ}
+use Rattle.theory.specs.TestLaws.{never}
 use Rattle.book.specs.Book.{versionOf, cellsOf, linksOf, bookRefusal}
 use Rattle.book.specs.AcceptedLaws.{book-sizes}
 use Rattle.edges.specs.BookEdges.{Loaded, passing}
@@ -25,7 +26,7 @@ use Rattle.search.specs.BookReasonLaws.{read-charted}
 use Rattle.compare_laws.specs.Comparison.{begin, upto, states}
 use Rattle.compare_entries.specs.declared.Pen.{Pen}
 use Rattle.compare_pair.specs.Settling.{chart, Ground, Standing}
-use Rattle.compare_rounds.specs.Turns.{atRest, Opens, Refines}
+use Rattle.compare_rounds.specs.Turns.{atRest, noPair, Opens, Refines}
 use Rattle.compare_lists.specs.BookSetting.{sheetVersion, settingOf}
 use Rattle.compare_lists.specs.Laws.{books-comparable}
 use Rattle.compare_lists.specs.Comparing.{IsRead, Lent, Started, Fills}
@@ -115,8 +116,9 @@ module _ {left right : List ℕ} {c : ℕ} {map room : List ℕ} (given : Lent l
 
       module _ {sa la ta ea sb lb tb eb : List ℕ} {n m : ℕ} (f : (i : ℕ) → Fits w8 (getD left i 0)) (g : (i : ℕ) → Fits w8 (getD right i 0))
           (x : IsRead left la ta sa ea) (y : IsRead right lb tb sb eb) (dn : n ≡ cellsOf left) (dm : m ≡ cellsOf right) where
-        pub opened : Opens (chart sa la ta ea) (chart sb lb tb eb) (record { left = n; right = m; bound = c; both = both }) (atRest room′ pen map′ (replicate 128 0))
-        opened = record { setting = settingOf (sidesOf both) left right c; before = 0; ground = ground f g x y dn dm; standing = standing }
+        pub opened : Opens (chart sa la ta ea) (chart sb lb tb eb) (record { left = n; right = m; bound = c; both = both }) noPair (atRest room′ pen map′ (replicate 128 0))
+        opened =
+            record { setting = settingOf (sidesOf both) left right c; before = 0; ground = ground f g x y dn dm; standing = standing; known = λ a b o u e. never e }
 
         pub filled : {map″ room″ new : List ℕ} {pen′ : Pen}
             → Refines (chart sa la ta ea) (chart sb lb tb eb) (record { left = n; right = m; bound = c; both = both }) (atRest room′ pen map′ (replicate 128 0)) (atRest room″ pen′ map″ new)

@@ -1,6 +1,6 @@
 -- What each turn and each way out of the functions shows of the definitions of `specs/`. The numbers that the code computed are variables
 -- here, with what is known of them, so that `search` finds them in a need's record.
-use mathlib.Core.Bool.{Bool, false, So, cond}
+use mathlib.Core.Bool.{Bool, false, So}
 use mathlib.Core.List.{List, _∷_}
 use mathlib.Core.Logic.{⊎-elim}
 use mathlib.Core.Path.{_≡_, refl, sym, ap, _∙_}
@@ -12,7 +12,7 @@ use lib.Bits.{bitOr}
 use lib.ListN.{length, getD, set, drop, replicate, length-set, length-replicate, getD-replicate}
 use lib.Seq.{drop-cons, drop-length, ext-getD, getD-set-same, getD-set-other}
 use Rattle.words.specs.Words.{bit, wordOf}
-use Rattle.words.specs.Laws.{wordOf-suc}
+use Rattle.words.specs.Laws.{word-in, word-out}
 use Rattle.edges.specs.Edges.{emptyRows}
 use Rattle.edges.specs.Laws.{rows-none, rows-more}
 use Rattle.answers.specs.Row.{rowWord, rowAnswer, wordIn}
@@ -49,15 +49,13 @@ module _ (rows : List ℕ) where
     column-start = refl
 
     module _ (i out next : ℕ) (inv : out ≡ columnOf rows i j) (b : Bool) (d : b ≡ bit (getD rows i 0) j) where
-      more : columnOf rows (i + 1) j ≡ cond b (bitOr out (2 ^ i)) out
-      unfolding columnOf
-      more = rw (add-one i, inv) (wordOf-suc i _ ∙ rw (← d))
-
       pub column-more : So b → (joined : ℕ) → joined ≡ bitOr out (2 ^ i) → next ≡ joined → next ≡ columnOf rows (i + 1) j
-      column-more e joined u v = v ∙ u ∙ sym (rw e at more)
+      unfolding columnOf
+      column-more e = word-in (λ i. bit (getD rows i 0) j) i out next inv (sym d ∙ e)
 
       pub column-skip : b ≡ false → next ≡ out → next ≡ columnOf rows (i + 1) j
-      column-skip e v = v ∙ sym (rw e at more)
+      unfolding columnOf
+      column-skip e = word-out (λ i. bit (getD rows i 0) j) i out next inv (sym d ∙ e)
 
     pub column-all : (n i out : ℕ) → out ≡ columnOf rows i j → i ≤ n → n ≤ i → out ≡ columnOf rows n j
     column-all n i out inv h l = let e : i ≡ n = omega arith in rw e at inv

@@ -1,10 +1,11 @@
 -- Where a round of a comparison stands, and how code takes it on. No bytes and no graphs are passed: that the lists show a setting is what `Stands` asks,
 -- of some setting, and what code leaves is said of every setting that they show (`Goes`).
+use mathlib.Core.Bool.{false, So}
 use mathlib.Core.List.{List}
 use mathlib.Core.Path.{_≡_}
-use Prim.Native.Nat.{ℕ, _+_, _*_, _≤_, _<_}
+use Prim.Native.Nat.{ℕ, suc, _+_, _*_, _≤_, _<_}
 use lib.ListN.{length, getD}
-use Rattle.theory.specs.Bisimulation.{flip, sidesOf}
+use Rattle.theory.specs.Bisimulation.{Relation, flip, sidesOf}
 use Rattle.search_links.specs.Hops.{View, viewOf}
 use Rattle.search.specs.Reasons.{Charted}
 use Rattle.compare_laws.specs.Setting.{Setting, pairs, relationAfter}
@@ -40,23 +41,33 @@ pub record Ground (s : Setting) (l r : Chart) (z : Sizes) : Type 0 where
 
 -- ---- what a round goes by
 
--- The lists of two books, the sizes, and a relation, from the left and from the right.
+-- The lists of two books, the sizes, a relation, from the left and from the right, and the pairs that are known to stay.
 pub record Basis : Type 0 where
   pub left : Chart
   pub right : Chart
   pub sizes : Sizes
   pub rows : List ℕ
   pub columns : List ℕ
+  pub idle : Relation
 
--- By these one by one.
+-- By these one by one, where it is known which pairs stay,
+abbrev pub basisWith : Relation → Chart → Chart → Sizes → List ℕ → List ℕ → Basis
+basisWith idle left right sizes rows columns = record { left = left; right = right; sizes = sizes; rows = rows; columns = columns; idle = idle }
+
+-- and where it is not.
 abbrev pub basis : Chart → Chart → Sizes → List ℕ → List ℕ → Basis
-basis left right sizes rows columns = record { left = left; right = right; sizes = sizes; rows = rows; columns = columns }
+basis = basisWith (λ a b. false)
+
+-- Round k + 1 keeps the pairs that pass the test, if they were not parted before.
+abbrev pub Idle : Setting → ℕ → Relation → Type 0
+Idle s k idle = (a b : ℕ) → a < s .left .size → b < s .right .size → So (idle a b) → So (relationAfter s k a b) → So (relationAfter s (suc k) a b)
 
 -- They are those of the setting's round k + 1.
 pub record Round (s : Setting) (k : ℕ) (by : Basis) : Type 0 where
   pub ground : Ground s (by .left) (by .right) (by .sizes)
   pub ahead : Tells (s .left .size) (s .right .size) (relationAfter s k) (by .rows)
   pub back : Tells (s .right .size) (s .left .size) (flip (relationAfter s k)) (by .columns)
+  pub idle : Idle s k (by .idle)
 
 -- ---- where it stands
 

@@ -1,23 +1,23 @@
 -- What each turn and the way out of `settle_row` and `settle_all` shows of the definitions of `specs/`. The numbers that the code computed are
 -- variables here, with what is known of them, so that `search` finds them in a need's record.
-use mathlib.Core.Bool.{Bool, true, false, not, _&&_}
+use mathlib.Core.Bool.{Bool, true, false, So, not, _&&_, _||_}
 use mathlib.Core.List.{List}
-use mathlib.Core.Logic.{_≢_}
+use mathlib.Core.Logic.{_≢_, ⊎-elim}
 use mathlib.Core.Path.{_≡_, refl, sym, ap, ap₂, _∙_}
 use Prim.Native.Nat.{ℕ, suc, _+_, _*_, _≤_, _<_}
 use native.Mathlib.Nat.{le-refl, mul-le-mul-right, suc-mul, add-zero, zero-mul}
 use native.Mathlib.Numerals.{add-one}
 use native.Mathlib.Omega.{arith}
-use borrow.Author.Tests.{eqb-true, ltb-true}
+use borrow.Author.Tests.{eqb-true, ltb-true, not-false}
 use lib.Dec.{ltb}
 use lib.ListN.{length, getD}
 use Rattle.theory.specs.Bisimulation.{sidesOf}
-use Rattle.theory.specs.TestLaws.{and-iff}
+use Rattle.theory.specs.TestLaws.{and-iff, or-iff}
 use Rattle.compare_laws.specs.Places.{placed, unparted}
 use Rattle.compare_laws.specs.PlaceLaws.{place-below}
 use Rattle.compare_laws.specs.Setting.{Setting}
 use Rattle.compare_laws.specs.Comparison.{stateAt}
-use Rattle.compare_laws.specs.DefinedLaws.{state-refined, nonzero-next, shared-next, zero-still}
+use Rattle.compare_laws.specs.DefinedLaws.{state-refined, nonzero-next, kept-next, shared-next, zero-still}
 use Rattle.compare_entries.specs.declared.Pen.{Pen}
 use Rattle.compare_entries.specs.Parting.{Lists, lists}
 use Rattle.compare_entries.specs.GrowingLaws.{onward-none}
@@ -58,6 +58,12 @@ module _ (by : Basis) (i j : ℕ) (x : Lists) (o : i < by .sizes .left) (u : j <
   parted-goes h =
       idle _ _ refl refl
       (λ s k g t. nonzero-next (g .ground .comparable) k i j _ (at-place s k g) (in-left s k g) (in-right s k g) (λ e. h (placed-is s k g t i j ∙ e)))
+
+  -- its pair is known to stay
+  pub idle-goes : So (by .idle i j) → Goes by (i * by .sizes .right + j) (suc (i * by .sizes .right + j)) x x
+  idle-goes e =
+      idle _ _ refl refl
+      (λ s k g t. kept-next (g .ground .comparable) k i j _ (at-place s k g) (in-left s k g) (in-right s k g) (g .idle i j (in-left s k g) (in-right s k g) e))
 
   -- its pair stays by a row before that shares a column with this one
   pub shared-goes : by .sizes .both ≡ true → (a b : ℕ) → a < i → b < j → placed (by .sizes .right) (x .map) i b ≡ 0 → placed (by .sizes .right) (x .map) a b ≡ 0
@@ -184,18 +190,18 @@ module _ {by : Basis} {i j twin : ℕ} {x₀ x : Lists} (inv : InRow by i j twin
     pub next-parted : getD (x .map) (i * by .sizes .right + j) 0 ≢ 0 → Goes by (i * by .sizes .right + j) (suc (i * by .sizes .right + j)) x x
     next-parted = parted-goes by i j x (inv .row) h
 
-    -- a pair that stays by the twin
-    pub next-followed : {b : Bool} → b ≡ (by .sizes .both && (ltb twin i && unparted (by .sizes .right) (x .map) twin j)) → not b ≡ false
+    -- a pair that stays, as is known or by the twin
+    pub next-stays : {b : Bool} → b ≡ (by .idle i j || (by .sizes .both && (ltb twin i && unparted (by .sizes .right) (x .map) twin j))) → not b ≡ false
         → Goes by (i * by .sizes .right + j) (suc (i * by .sizes .right + j)) x x
-    next-followed {b} e t =
-        let (w, (k, z)) = simp and-iff at (sym e ∙ not-false b t) in
-        let l = ltb-true twin i k in
-        let (y, v, a, a′) = inv .shares .shared l in
-        shared-goes by i j x (inv .row) h w twin y l v a a′ (eqb-true _ 0 z)
+    next-stays {b} e t = ⊎-elim (idle-goes by i j x (inv .row) h) followed (or-iff _ _ .0 (sym e ∙ not-false b t))
       where
-        not-false : (b : Bool) → not b ≡ false → b ≡ true
-        not-false true d = refl
-        not-false false d = sym d
+        followed : So (by .sizes .both && (ltb twin i && unparted (by .sizes .right) (x .map) twin j))
+            → Goes by (i * by .sizes .right + j) (suc (i * by .sizes .right + j)) x x
+        followed f =
+            let (w, (k, z)) = simp and-iff at f in
+            let l = ltb-true twin i k in
+            let (y, v, a, a′) = inv .shares .shared l in
+            shared-goes by i j x (inv .row) h w twin y l v a a′ (eqb-true _ 0 z)
 
 -- ---- all rows
 

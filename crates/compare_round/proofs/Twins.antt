@@ -1,17 +1,20 @@
--- What each turn and each way out of `first_row`, `twin_of` and `follows` shows of the definitions of `specs/`, and what holds of a twin from one column
+-- What each turn and each way out of `first_row`, `twin_of`, `follows` and `stays` shows of the definitions of `specs/`, and what holds of a twin from one column
 -- to the next.
-use mathlib.Core.Bool.{Bool, true, false, false≢true, cond, not, _&&_}
+use mathlib.Core.Bool.{Bool, true, false, false≢true, cond, not, _&&_, _||_}
 use mathlib.Core.List.{List}
 use mathlib.Core.Path.{_≡_, refl}
 use mathlib.Core.Logic.{_≢_}
 use Prim.Native.Nat.{ℕ, _+_, _*_, _≤_, _<_}
 use native.Mathlib.Nat.{le-refl}
 use native.Mathlib.Omega.{arith}
-use borrow.Author.Tests.{eqb-true, eq-eqb, ne-eqb, lt-ltb, le-ltb, not-false}
+use borrow.Author.Tests.{eqb-true, eq-eqb, ne-eqb, lt-ltb, le-ltb, not-false, not-true}
 use lib.Dec.{eqb, ltb}
 use lib.ListN.{getD}
+use Rattle.words.specs.Words.{bit}
 use Rattle.words.specs.Laws.{first-there, first-le, first-stop, first-end, first-next}
 use Rattle.compare_laws.specs.Places.{placed, unparted}
+use Rattle.compare_round.specs.declared.Live.{Live}
+use Rattle.compare_round.specs.Idle.{idleIn}
 use Rattle.compare_round.specs.Twins.{firstRow, twinOf, Twin}
 
 -- ---- the first row that has 0 in the column
@@ -52,6 +55,21 @@ module _ (m : ℕ) (map : List ℕ) (i j twin : ℕ) where
 
   pub follows-none : (both : Bool) → not both ≡ false → i ≤ twin → false ≡ (both && (ltb twin i && unparted m map twin j))
   follows-none both d h = rw (not-false both d, le-ltb twin i h)
+
+-- ---- whether a pair stays, by the cells to be looked at or else
+module _ (live : Live) (i j : ℕ) (other a : Bool) (d : a ≡ bit (live .left) i) where
+  pub stays-left : not a ≡ true → true ≡ (idleIn live i j || other)
+  unfolding idleIn
+  stays-left e = rw (← d, not-true a e)
+
+  module _ (f : not a ≡ false) (b : Bool) (d′ : b ≡ bit (live .right) j) where
+    pub stays-right : not b ≡ true → true ≡ (idleIn live i j || other)
+    unfolding idleIn
+    stays-right e = rw (← d, ← d′, not-false a f, not-true b e)
+
+    pub stays-else : not b ≡ false → (r : Bool) → r ≡ other → r ≡ (idleIn live i j || other)
+    unfolding idleIn
+    stays-else e r k = rw (← d, ← d′, not-false a f, not-false b e) k
 
 -- ---- from column to column
 module _ {m : ℕ} {map : List ℕ} {i j twin : ℕ} (t : Twin m map i j twin) where

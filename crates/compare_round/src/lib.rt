@@ -1,13 +1,15 @@
-// One round of a comparison: every pair whose place of the map holds 0 is settled once, in the order of the places. Where both sides count, rows that
-// share a pair that stays are equal (theory, `RowLaws`): where a row before tells that a pair stays, it is not searched.
-ghost use mathlib.Core.Bool.{_&&_};
+// One round of a comparison: every pair whose place of the map holds 0 is settled once, in the order of the places. A pair is not searched where it is
+// known that it stays: because no pair near it was parted (theory, `near-kept`), or, where both sides count, because a row before tells, for rows that share
+// a pair that stays are equal (theory, `RowLaws`).
+ghost use mathlib.Core.Bool.{_&&_, _||_};
 ghost use mathlib.Core.Path.{_≡_};
 ghost use Prim.Native.Nat.{suc, _+_, _*_, _<_};
 ghost use lib.Dec.{ltb};
 ghost use lib.ListN.{length};
 ghost use Rattle.compare_laws.specs.Places.{unparted};
 ghost use Rattle.compare_entries.specs.Parting.{lists};
-ghost use Rattle.compare_pair.specs.Settling.{chart, basis, Stands, Goes};
+ghost use Rattle.compare_pair.specs.Settling.{chart, basisWith, Stands, Goes};
+ghost use Rattle.compare_round.specs.Idle.{idleIn};
 ghost use Rattle.compare_round.specs.Twins.{firstRow, twinOf};
 use book::LeftCell;
 use book::RightCell;
@@ -59,10 +61,31 @@ fn follows(map: &[u16], m: usize, i: usize, j: usize, twin: usize, both: bool) -
     false
 }
 
+// The cells that a round has to look at: a pair stays, unless its left and its right cell are both among them.
+pub struct Live {
+    pub left: u64,
+    pub right: u64,
+}
+
+// Whether the pair (i, j) stays: by the cells that the round has to look at, or by row i's twin.
+fn stays(map: &[u16], i: usize, j: usize, twin: usize, sizes: Sizes, live: Live) -> bool
+    requires { ⌜ (i * sizes .right + j < length (now map)) × (i < 64) × (j < 64) ⌝ }
+    ensures { λ r. ⌜ r ≡ (idleIn live i j || (sizes .both && (ltb twin i && unparted (sizes .right) (now (map .entry)) twin j))) ⌝ }
+{
+    if !words::has(live.left, i as u8) {
+        return true;
+    }
+    if !words::has(live.right, j as u8) {
+        return true;
+    }
+    follows(map, sizes.right, i, j, twin, sizes.both)
+}
+
 // A row of the map, of so many.
 pub struct Row {
     pub sizes: Sizes,
     pub number: usize,
+    pub live: Live,
 }
 
 // Settles the pairs of a row. The other parameters are those of `compare_pair::settle`.
@@ -84,8 +107,8 @@ fn settle_row(
     new: &mut [u16; 128],
     row: Row,
 ) -> Pen
-    requires { ⌜ Stands (basis (chart (now sa) (now la) (now ta) (now ea)) (chart (now sb) (now lb) (now tb) (now eb)) (row .sizes) (now rows) (now columns)) (row .number * row .sizes .right) (lists (now room) pen (now map) (now old) (now new)) × (row .number < row .sizes .left) ⌝ }
-    ensures { λ r. ⌜ Goes (basis (chart (now (sa .entry)) (now (la .entry)) (now (ta .entry)) (now (ea .entry))) (chart (now (sb .entry)) (now (lb .entry)) (now (tb .entry)) (now (eb .entry))) (row .sizes) (now (rows .entry)) (now (columns .entry))) (row .number * row .sizes .right) (suc (row .number) * row .sizes .right) (lists (now (room .entry)) pen (now (map .entry)) (now (old .entry)) (now (new .entry))) (lists (now (room .exit)) r (now (map .exit)) (now (old .entry)) (now (new .exit))) ⌝ }
+    requires { ⌜ Stands (basisWith (idleIn (row .live)) (chart (now sa) (now la) (now ta) (now ea)) (chart (now sb) (now lb) (now tb) (now eb)) (row .sizes) (now rows) (now columns)) (row .number * row .sizes .right) (lists (now room) pen (now map) (now old) (now new)) × (row .number < row .sizes .left) ⌝ }
+    ensures { λ r. ⌜ Goes (basisWith (idleIn (row .live)) (chart (now (sa .entry)) (now (la .entry)) (now (ta .entry)) (now (ea .entry))) (chart (now (sb .entry)) (now (lb .entry)) (now (tb .entry)) (now (eb .entry))) (row .sizes) (now (rows .entry)) (now (columns .entry))) (row .number * row .sizes .right) (suc (row .number) * row .sizes .right) (lists (now (room .entry)) pen (now (map .entry)) (now (old .entry)) (now (new .entry))) (lists (now (room .exit)) r (now (map .exit)) (now (old .entry)) (now (new .exit))) ⌝ }
 {
     let sizes = row.sizes;
     let m = sizes.right;
@@ -95,7 +118,7 @@ fn settle_row(
     for column in 0..m {
         let place = i * m + column;
         if map[place] == 0 {
-            if !follows(map, m, i, column, twin, sizes.both) {
+            if !stays(map, i, column, twin, sizes, row.live) {
                 let left = i as u8;
                 let right = column as u8;
                 let here = Case {
@@ -128,7 +151,7 @@ fn settle_row(
     p
 }
 
-// Settles all pairs. The parameters are those of `compare_pair::settle`.
+// Settles all pairs. The other parameters are those of `compare_pair::settle`.
 pub fn settle_all(
     sa: &[u16; 65],
     la: &[u16; 512],
@@ -146,14 +169,19 @@ pub fn settle_all(
     map: &mut [u16],
     new: &mut [u16; 128],
     sizes: Sizes,
+    live: Live,
 ) -> Pen
-    requires { ⌜ Stands (basis (chart (now sa) (now la) (now ta) (now ea)) (chart (now sb) (now lb) (now tb) (now eb)) sizes (now rows) (now columns)) 0 (lists (now room) pen (now map) (now old) (now new)) ⌝ }
-    ensures { λ r. ⌜ Goes (basis (chart (now (sa .entry)) (now (la .entry)) (now (ta .entry)) (now (ea .entry))) (chart (now (sb .entry)) (now (lb .entry)) (now (tb .entry)) (now (eb .entry))) sizes (now (rows .entry)) (now (columns .entry))) 0 (sizes .left * sizes .right) (lists (now (room .entry)) pen (now (map .entry)) (now (old .entry)) (now (new .entry))) (lists (now (room .exit)) r (now (map .exit)) (now (old .entry)) (now (new .exit))) ⌝ }
+    requires { ⌜ Stands (basisWith (idleIn live) (chart (now sa) (now la) (now ta) (now ea)) (chart (now sb) (now lb) (now tb) (now eb)) sizes (now rows) (now columns)) 0 (lists (now room) pen (now map) (now old) (now new)) ⌝ }
+    ensures { λ r. ⌜ Goes (basisWith (idleIn live) (chart (now (sa .entry)) (now (la .entry)) (now (ta .entry)) (now (ea .entry))) (chart (now (sb .entry)) (now (lb .entry)) (now (tb .entry)) (now (eb .entry))) sizes (now (rows .entry)) (now (columns .entry))) 0 (sizes .left * sizes .right) (lists (now (room .entry)) pen (now (map .entry)) (now (old .entry)) (now (new .entry))) (lists (now (room .exit)) r (now (map .exit)) (now (old .entry)) (now (new .exit))) ⌝ }
 {
     let n = sizes.left;
     let mut p = pen;
     for row in 0..n {
-        let this = Row { sizes, number: row };
+        let this = Row {
+            sizes,
+            number: row,
+            live,
+        };
         p = settle_row(
             sa,
             la,

@@ -1,11 +1,10 @@
 -- What each turn and each way out of the functions that read a book shows of the definitions of `specs/`, as in `Laws`.
-use mathlib.Core.Bool.{Bool, false, So, cond}
-use mathlib.Core.Path.{_≡_, refl, sym, ap, _∙_}
+use mathlib.Core.Bool.{Bool, false, So}
+use mathlib.Core.Path.{_≡_, refl, ap, _∙_}
 use mathlib.Core.List.{List}
 use mathlib.Core.Logic.{⊎-elim}
 use Prim.Native.Nat.{ℕ, _+_, _^_, _≤_, _<_}
 use native.Mathlib.Nat.{eq-or-lt-of-le}
-use native.Mathlib.Numerals.{add-one}
 use native.Mathlib.Omega.{arith}
 use lib.Bits.{bitOr}
 use lib.ListN.{length, set, length-set}
@@ -13,9 +12,9 @@ use lib.Seq.{getD-set-same, getD-set-other}
 use Rattle.theory.specs.TestLaws.{list-ext}
 use Rattle.theory.specs.Graph.{Comparison, same, differ}
 use Rattle.words.specs.Words.{wordOf}
-use Rattle.words.specs.Laws.{wordOf-suc}
+use Rattle.words.specs.Laws.{word-in, word-out}
 use Rattle.book.specs.Book.{cellsOf, linksOf, recordingAt, linkAt, bookRefusal, asLink}
-use Rattle.book.specs.BookGraph.{passes}
+use Rattle.book.specs.BookGraph.{passes, graphOf}
 use Rattle.book.specs.AcceptedLaws.{book-sizes, book-link, book-ends}
 use Rattle.book.specs.declared.BookLink.{BookLink}
 use Rattle.edges.specs.Edges.{edgeAt, emptyRows}
@@ -95,15 +94,16 @@ module _ (s : List ℕ) (t : Comparison) where
 
   module _ (n x y : ℕ) (dn : n ≡ cellsOf s) (hx : x < cellsOf s) (hy : y < n) (a b : ℕ) (da : a ≡ recordingAt s x) (db : b ≡ recordingAt s y)
       (r : Bool) (dr : r ≡ passes t a b) (out next : ℕ) (i : out ≡ passingTo s t x y) where
-    more : passingTo s t x (y + 1) ≡ cond r (bitOr out (2 ^ y)) out
-    unfolding passingTo
-    more = rw (add-one y, i) (wordOf-suc y _ ∙ rw (book-ends s t x y hx (omega arith), ← da, ← db, ← dr))
+    passed : graphOf s .ends t x y ≡ r
+    passed = book-ends s t x y hx (omega arith) ∙ rw (← da, ← db, ← dr)
 
     pub word-more : So r → (joined : ℕ) → joined ≡ bitOr out (2 ^ y) → next ≡ joined → next ≡ passingTo s t x (y + 1)
-    word-more e joined u d = d ∙ u ∙ sym (rw e at more)
+    unfolding passingTo
+    word-more e = word-in (graphOf s .ends t x) y out next i (passed ∙ e)
 
     pub word-skip : r ≡ false → next ≡ out → next ≡ passingTo s t x (y + 1)
-    word-skip e d = d ∙ sym (rw e at more)
+    unfolding passingTo
+    word-skip e = word-out (graphOf s .ends t x) y out next i (passed ∙ e)
 
   pub word-all : (x y n out : ℕ) → n ≡ cellsOf s → n ≤ y → y ≤ n → out ≡ passingTo s t x y → out ≡ passingTo s t x (cellsOf s)
   word-all x y n out d h l i = let e : y ≡ cellsOf s = omega arith in rw e at i

@@ -4,7 +4,6 @@ use mathlib.Core.Path.{_≡_, refl, sym, ap, _∙_}
 use mathlib.Core.List.{List, append-nil}
 use Prim.Native.Nat.{ℕ, suc, _+_, _-_, _^_, _≤_, _<_}
 use native.Mathlib.Nat.{sub-zero}
-use native.Mathlib.Numerals.{add-one}
 use native.Mathlib.Omega.{arith}
 use borrow.Author.Tests.{lt-ltb, le-ltb, ne-eqb}
 use lib.Bits.{bitAnd, bitOr, bitXor}
@@ -13,7 +12,7 @@ use lib.ListN.{getD, set, drop, length-replicate}
 use Rattle.theory.specs.Search.{list}
 use Rattle.theory.specs.Graph.{same, differ, Link}
 use Rattle.words.specs.Words.{wordOf}
-use Rattle.words.specs.Laws.{wordOf-suc}
+use Rattle.words.specs.Laws.{word-in, word-out}
 use Rattle.sheet.specs.Entry.{Step, Entry, truth, negation, conjunction, disjunction, way, comparison, kindOf, firstWay, secondWay, stepIn, numbers}
 use Rattle.sheet.specs.Sheet.{entryAt, entryStart, nextAt}
 use Rattle.sheet.specs.AcceptedLaws.{entryStart-zero}
@@ -120,15 +119,16 @@ singles-end x rows h l d = d ∙ rw (let e : x ≡ 64 = omega arith in e) (appen
 
 -- ---- two rows a node
 module _ (n x out : ℕ) (rows firsts seconds : List ℕ) (b : Bool) (d : b ≡ anyPasses (getD firsts x 0) (getD seconds x 0) rows) (i : out ≡ comparisonWord x rows firsts seconds) where
-  more : comparisonWord (x + 1) rows firsts seconds ≡ cond b (bitOr out (2 ^ x)) out
-  unfolding comparisonWord
-  more = rw (add-one x, d, i) (wordOf-suc x _)
+  abbrev passed : ℕ → Bool
+  passed y = anyPasses (getD firsts y 0) (getD seconds y 0) rows
 
   pub comparison-set : (v r : ℕ) → b ≡ true → v ≡ bitOr out (2 ^ x) → r ≡ v → r ≡ comparisonWord (x + 1) rows firsts seconds
-  comparison-set v r t e k = k ∙ e ∙ sym (more ∙ rw t)
+  unfolding comparisonWord
+  comparison-set v r t = word-in passed x out r i (sym d ∙ t) v
 
   pub comparison-clear : (r : ℕ) → b ≡ false → r ≡ out → r ≡ comparisonWord (x + 1) rows firsts seconds
-  comparison-clear r t k = k ∙ sym (more ∙ rw t)
+  unfolding comparisonWord
+  comparison-clear r t = word-out passed x out r i (sym d ∙ t)
 
 pub comparison-start : (rows firsts seconds : List ℕ) → 0 ≡ comparisonWord 0 rows firsts seconds
 unfolding comparisonWord wordOf

@@ -18,7 +18,7 @@ use Rattle.theory.specs.TestLaws.{never, and-iff, or-iff, facts, test-eq}
 use Rattle.words.specs.Words.{bit, wordOf}
 use Rattle.words.specs.Laws.{bit-or, bit-zero, bit-pow, bit-without, wordOf-is, first-stop, first-end, first-next}
 use Rattle.search_links.specs.Hops.{View, labelOf, toOf, hopsFrom, Opened, lead, Starts}
-use Rattle.search_links.specs.Sets.{among, reached, spread, Paired}
+use Rattle.search_links.specs.Sets.{among, reached, meets, spread, Paired}
 use Rattle.search_links.specs.BookHopLaws.{lead-le, lead-rises}
 
 -- ---- the first link from a node or a later one
@@ -122,6 +122,25 @@ module _ (row : ℕ → ℕ) where
   pub spread-end : (w out left : ℕ) → Joins out (joined left) (joined w) → out < 2 ^ 64 → left ≡ 0 → out ≡ spread row w
   unfolding spread
   spread-end w out left j l z = joins-end (joined w) out (joined left) j (λ y. none-left left y z) l
+
+-- ---- whether a link leads to a node of w
+module _ (to : List ℕ) (w until from k : ℕ) (j : meets to w from (until - from) ≡ meets to w k (until - k)) where
+  leads-step : k < until → meets to w k (until - k) ≡ bit w (getD to k 0) || meets to w (k + 1) (until - (k + 1))
+  unfolding meets
+  leads-step l =
+      let e : until - k ≡ suc (until - (k + 1)) = omega arith in
+      ap (λ (n : ℕ). meets to w k n) e ∙ rw (add-one k)
+
+  module _ (l : k < until) (b : Bool) (d : b ≡ bit w (getD to k 0)) where
+    pub leads-found : So b → true ≡ meets to w from (until - from)
+    leads-found t = sym (j ∙ leads-step l ∙ rw (← d, t))
+
+    pub leads-skip : b ≡ false → meets to w from (until - from) ≡ meets to w (k + 1) (until - (k + 1))
+    leads-skip t = j ∙ leads-step l ∙ rw (← d, t)
+
+  pub leads-none : until ≤ k → false ≡ meets to w from (until - from)
+  unfolding meets
+  leads-none h = let e : until - k ≡ 0 = omega arith in sym (j ∙ ap (λ (n : ℕ). meets to w k n) e)
 
 -- ---- the nodes that some links lead to
 module _ (v : View) (a until : ℕ) where

@@ -1,9 +1,9 @@
 -- What the words have in them, for callers.
 use mathlib.Core.Bool.{So, _&&_}
 use mathlib.Core.Path.{_≡_}
-use mathlib.Core.Logic.{_↔_}
+use mathlib.Core.Logic.{_↔_, inl, inr}
 use mathlib.Core.List.{List, [], _∷_, List·Memᴰ, List·Memᴰ·not-nil}
-use Prim.Native.Nat.{ℕ, _^_, _<_}
+use Prim.Native.Nat.{ℕ, zero, suc, _^_, _<_}
 use lib.Dec.{eqb}
 use Rattle.theory.specs.Search.{any}
 use Rattle.theory.specs.TestLaws.{never, and-iff, or-iff, eqb-iff, sum-iff, cons-iff, test-eq}
@@ -12,7 +12,8 @@ use Rattle.theory.specs.Path.{Hop, hop, out}
 use Rattle.theory.specs.WalkLaws.{out-iff}
 use Rattle.words.specs.Words.{bit}
 use Rattle.words.specs.Laws.{bit-wordOf-lt, wordOf-lt}
-use Rattle.search_links.specs.Sets.{among, reached, spread}
+use Rattle.search_links.specs.Hops.{View, toOf, hopsFrom, hopsOf}
+use Rattle.search_links.specs.Sets.{among, reached, meets, leadsTo, spread}
 
 hop-iff : (h : Hop) (a y : ℕ) → So (eqb (h .label) a && eqb (h .to) y) ↔ (hop a y ≡ h)
 hop-iff h a y = simp (and-iff, eqb-iff) (λ (p, q). rw (← p, ← q), λ e. ((cc), (cc)))
@@ -29,6 +30,21 @@ linked-among g hs x a y e =
     test-eq _ _
     (λ t. among-iff hs a y .1 (rw e at (out-iff (g .links) x (hop a y) .1 t)))
     (λ t. out-iff (g .links) x (hop a y) .0 (rw e (among-iff hs a y .0 t)))
+
+-- a hop to a node of w is a link that leads to one
+meets-hop : (v : View) (w k n : ℕ) (h : Hop) → List·Memᴰ h (hopsFrom v k n) → So (bit w (h .to)) → So (meets (v .to) w k n)
+unfolding hopsFrom meets
+meets-hop v w k zero h m b = absurd (List·Memᴰ·not-nil m)
+meets-hop v w k (suc n) h m b =
+    elim (simp cons-iff at m) [
+      | inl e ↦ simp or-iff (inl (let d : h .to ≡ toOf v k = cc in rw d at b))
+      | inr m ↦ simp or-iff (inr (meets-hop v w (suc k) n h m b))
+    ]
+
+-- and so is a link of a graph, where they are its hops
+pub linked-leads : (g : Graph) (v : View) (w x : ℕ) (h : Hop) → out (g .links) x ≡ hopsOf v x → So (linked g x (h .label) (h .to)) → So (bit w (h .to))
+    → So (leadsTo (v .starts) (v .to) w x)
+linked-leads g v w x h e t = meets-hop v w _ _ h (rw e at (out-iff (g .links) x h .1 t))
 
 pub bit-reached : (hs : List Hop) (a y : ℕ) → y < 64 → bit (reached hs a) y ≡ among hs a y
 unfolding reached

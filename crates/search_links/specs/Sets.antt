@@ -2,7 +2,7 @@
 use mathlib.Core.Bool.{Bool, false, So, _&&_, _||_}
 use mathlib.Core.Path.{_≡_}
 use mathlib.Core.List.{List, [], _∷_}
-use Prim.Native.Nat.{ℕ, _+_, _*_, _<_}
+use Prim.Native.Nat.{ℕ, zero, suc, _+_, _-_, _*_, _<_}
 use lib.Dec.{eqb}
 use lib.ListN.{getD}
 use Rattle.theory.specs.Search.{any}
@@ -18,6 +18,15 @@ among (h ∷ hs) a y = (eqb (h .label) a && eqb (h .to) y) || among hs a y
 -- The nodes that the hops reach by the label a.
 unfoldable pub reached : List Hop → ℕ → ℕ
 reached hs a = wordOf 64 (among hs a)
+
+-- One of n links from link k on leads to a node of w.
+unfoldable pub meets : List ℕ → ℕ → ℕ → ℕ → Bool
+meets to w k zero = false
+meets to w k (suc n) = bit w (getD to k 0) || meets to w (suc k) n
+
+-- A link out of node x leads to a node of w.
+abbrev pub leadsTo : List ℕ → List ℕ → ℕ → ℕ → Bool
+leadsTo starts to w x = meets to w (getD starts x 0) (getD starts (x + 1) 0 - getD starts x 0)
 
 -- The union of the rows of the nodes of w.
 unfoldable pub spread : (ℕ → ℕ) → ℕ → ℕ

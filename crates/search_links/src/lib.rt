@@ -4,7 +4,7 @@ ghost use mathlib.Core.Path.{_≡_};
 ghost use Prim.Native.Nat.{_≤_, _<_};
 ghost use lib.ListN.{getD};
 ghost use Rattle.search_links.specs.Hops.{viewOf, hopsOf, lead, Starts, Opened};
-ghost use Rattle.search_links.specs.Sets.{reached, spread, imageOf, rowAt, Paired};
+ghost use Rattle.search_links.specs.Sets.{reached, leadsTo, spread, imageOf, rowAt, Paired};
 
 // The comparisons, by their place among the rows of the cells that pass one: those of same come first.
 pub const SAME: u8 = 0;
@@ -74,6 +74,22 @@ pub fn targets(starts: &[u16; 65], labels: &[u16; 512], to: &[u8; 512], x: u8, l
         k += 1;
     }
     out
+}
+
+// Whether a link out of cell x leads to a cell of w.
+pub fn leads(starts: &[u16; 65], to: &[u8; 512], x: u8, w: u64) -> bool
+    requires { ⌜ Opened (now starts) (now to) × (x < 64) ⌝ }
+    ensures { λ r. ⌜ r ≡ leadsTo (now (starts .entry)) (now (to .entry)) w x ⌝ }
+{
+    let until = starts[x as usize + 1];
+    let mut k = starts[x as usize];
+    while k < until {
+        if words::has(w, to[k as usize]) {
+            return true;
+        }
+        k += 1;
+    }
+    false
 }
 
 // The cells that a link with the label leads to from a cell of w.

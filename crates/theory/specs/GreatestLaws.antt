@@ -4,18 +4,18 @@
 -- long as the table changes the number of its pairs falls. It starts at n × m, so after n × m rounds the table stands still (`last`, `fixed`), and a
 -- relation that a round leaves as it is has only pairs whose clauses hold under itself: it is a simulation, or a bisimulation (`sided-iff`).
 -- Every other lies within it: it lies within the first table, which has all pairs; and if it lies within one round's relation it lies within the next,
--- because clauses that hold under a relation hold under any larger one (`zig-more`, `within`). Nothing here asks whether that other one can be computed.
-use mathlib.Core.Bool.{false, So}
+-- because clauses that hold under a relation hold under any larger one (`zig-near`, `within`). Nothing here asks whether that other one can be computed.
+use mathlib.Core.Bool.{true, false, So}
 use mathlib.Core.Path.{_≡_, refl, sym, ap, _∙_}
 use mathlib.Core.Logic.{_↔_, _⊎_, inl, inr, ⊎-elim}
 use mathlib.Core.List.{[], _∷_}
-use Prim.Native.Nat.{ℕ, zero, suc, _*_, _≤_, _<_}
-use native.Mathlib.Nat.{le-of-eq}
+use Prim.Native.Nat.{ℕ, zero, suc, _*_, _≤_, _<_, suc-le-suc}
+use native.Mathlib.Nat.{le-of-eq, not-suc-le-zero, le-of-suc-le-suc}
 use native.Mathlib.Omega.{arith}
-use lib.ListN.{getD}
+use lib.ListN.{length, getD}
 use Rattle.theory.specs.TestLaws.{never, le-or-lt, and-iff, list-at, list-past, list-ext}
-use Rattle.theory.specs.Graph.{Graph, WellFormed}
-use Rattle.theory.specs.Path.{Path}
+use Rattle.theory.specs.Graph.{Graph, WellFormed, linked}
+use Rattle.theory.specs.Path.{Hop, hop, Path, Walk, end}
 use Rattle.theory.specs.WalkLaws.{linked-inside}
 use Rattle.theory.specs.Bisimulation.{Relation, flip, Pairs, pairs, Under, Alike, Image, Zig, Sides, oneSided, twoSided, Sided, Greatest}
 use Rattle.theory.specs.Rounds.{Table, related, table, zigs, zags, round, rounds, after, settled}
@@ -43,26 +43,55 @@ pub table-ext : (n m : ℕ) (z y : Relation) → ((a b : ℕ) → a < n → b < 
 unfolding table
 table-ext n m z y h = list-ext n _ _ (λ a i. list-ext m _ _ (λ b k. h a b i k))
 
-module _ {z y : Pairs} (more : Under z y) where
-  alike-more : (p q : Path) → Alike z p q → Alike y p q
-  unfolding Alike
-  alike-more [] [] h = tt
-  alike-more [] (k ∷ q) h = h
-  alike-more (k ∷ p) [] h = h
-  alike-more (k ∷ p) (s ∷ q) h = (h .0, more (k .to) (s .to) (h .1), alike-more p q (h .2))
+-- ---- clauses that hold under z hold under more, if the pairs of z near the two nodes are among the more
 
-  image-more : {r : Graph} {p : Path} {b y′ : ℕ} → Image r z p b y′ → Image r y p b y′
-  image-more {p = p} i = record { path = i .path; walk = i .walk; alike = alike-more p (i .path) (i .alike); last = i .last }
+-- At most d links lead from a to x.
+pub record Near (g : Graph) (d a x : ℕ) : Type 0 where
+  pub path : Path
+  pub walk : Walk g a path
+  pub short : length path ≤ d
+  pub last : end a path ≡ x
 
-  -- clauses that hold under z hold under more
-  pub zig-more : {l r : Graph} {c a b : ℕ} → Zig l r c z a b → Zig l r c y a b
-  zig-more k =
+module _ {g : Graph} {d a : ℕ} (h : Hop) (e : linked g a (h .label) (h .to) ≡ true) where
+  -- a link before
+  near-step : {x : ℕ} → Near g d (h .to) x → Near g (suc d) a x
+  unfolding Walk end
+  near-step n = record { path = h ∷ n .path; walk = (e, n .walk); short = suc-le-suc (n .short); last = n .last }
+
+  -- one link
+  near-link : 1 ≤ d → Near g d a (h .to)
+  unfolding Walk end
+  near-link o = record { path = h ∷ []; walk = (e, tt); short = o; last = refl }
+
+-- Every pair of z that is near a and b is one of y.
+abbrev NearUnder : Graph → Graph → Pairs → Pairs → ℕ → ℕ → ℕ → Type 0
+NearUnder l r z y d a b = (x x′ : ℕ) → Near l d a x → Near r d b x′ → z x x′ → y x x′
+
+module _ {l r : Graph} {z y : Pairs} where
+  alike-near : (d : ℕ) (p q : Path) (a b : ℕ) → length p ≤ d → Walk l a p → Walk r b q → NearUnder l r z y d a b → Alike z p q → Alike y p q
+  unfolding Alike Walk
+  alike-near d [] [] a b s v w more h = tt
+  alike-near d [] (k ∷ q) a b s v w more h = h
+  alike-near d (k ∷ p) [] a b s v w more h = h
+  alike-near zero (k ∷ p) (t ∷ q) a b s v w more h = absurd (not-suc-le-zero s)
+  alike-near (suc d) (k ∷ p) (t ∷ q) a b s v w more h = (
+    h .0,
+    more (k .to) (t .to) (near-link k (v .0) (omega arith)) (near-link t (w .0) (omega arith)) (h .1),
+    alike-near d p q (k .to) (t .to) (le-of-suc-le-suc s) (v .1) (w .1) (λ x x′ n m. more x x′ (near-step k (v .0) n) (near-step t (w .0) m)) (h .2),
+  )
+
+  pub zig-near : (d : ℕ) {c a b : ℕ} → 1 ≤ d → c ≤ d → NearUnder l r z y d a b → Zig l r c z a b → Zig l r c y a b
+  zig-near d {c} {a} {b} one all more k =
       record {
         two = λ t p q u v wp wq e.
             let s = k .two t p q u v wp wq e in
-            record { y = s .y; y′ = s .y′; first = image-more (s .first); second = image-more (s .second); ends = s .ends };
-        one = λ x y e. let t = k .one x y e in (t .0, t .1, more y (t .0) (t .2));
+            record { y = s .y; y′ = s .y′; first = image p u wp (s .first); second = image q v wq (s .second); ends = s .ends };
+        one = λ x y e. let t = k .one x y e in (t .0, t .1, more y (t .0) (near-link (hop x y) e one) (near-link (hop x (t .0)) (t .1) one) (t .2));
       }
+    where
+      image : (p : Path) {y′ : ℕ} → length p ≤ c → Walk l a p → Image r z p b y′ → Image r y p b y′
+      image p u w i =
+          record { path = i .path; walk = i .walk; alike = alike-near d p (i .path) a b (omega arith) w (i .walk) more (i .alike); last = i .last }
 
 -- What a round asks of a pair that it keeps.
 pub record Kept (s : Sides) (l r : Graph) (c : ℕ) (z : Pairs) (a b : ℕ) : Type 0 where
@@ -119,6 +148,19 @@ module _ (s : Sides) {l r : Graph} (c : ℕ) (wl : WellFormed l) (wr : WellForme
   pub descends : (k : ℕ) → Under (pairs (after s l r c (suc k))) (pairs (after s l r c k))
   descends k a b e = next-iff k a b .0 e .before
 
+  -- A pair that a round keeps is kept by the next one too, if the round dropped no pair near it.
+  pub near-kept : (d k a b : ℕ) → 1 ≤ d → c ≤ d → ((x y : ℕ) → Near l d a x → Near r d b y → So (after s l r c k x y) → So (after s l r c (suc k) x y))
+      → So (after s l r c (suc k) a b) → So (after s l r c (suc (suc k)) a b)
+  near-kept d k a b one all more e =
+      let t = next-iff k a b .0 e in
+      next-iff (suc k) a b .1 (record {
+        left = t .left;
+        right = t .right;
+        before = e;
+        zig = zig-near d one all more (t .zig);
+        zag = λ q. zig-near d one all (λ y x n m. more x y m n) (t .zag q);
+      })
+
   -- every round's relation is one among the nodes
   pub after-inside : (k a b : ℕ) → So (after s l r c k a b) → (a < l .size) × (b < r .size)
   unfolding rounds
@@ -135,8 +177,8 @@ module _ (s : Sides) {l r : Graph} (c : ℕ) (wl : WellFormed l) (wr : WellForme
         left = p .left;
         right = p .right;
         before = within z m k a b e;
-        zig = zig-more (within z m k) (p .zig);
-        zag = λ q. zig-more (λ x y. within z m k y x) (p .zag q);
+        zig = zig-near (suc c) (omega arith) (omega arith) (λ x y _ _. within z m k x y) (p .zig);
+        zag = λ q. zig-near (suc c) (omega arith) (omega arith) (λ x y _ _. within z m k y x) (p .zag q);
       })
 
   tabled : (k : ℕ) → rounds s l r c k ≡ table (l .size) (r .size) (after s l r c k)

@@ -1,10 +1,10 @@
 -- The laws of a word's bits, each stated once: the operations, extensionality, the word of a test, the count, the lowest bit, and a cell taken away.
 use mathlib.Core.Path.{_≡_, refl, sym, ap, ap₂, _∙_}
-use mathlib.Core.Bool.{Bool, true, false, false≢true, cond, _&&_, _||_, not, xor, and-false}
+use mathlib.Core.Bool.{Bool, true, false, false≢true, So, cond, _&&_, _||_, not, xor, and-false}
 use mathlib.Core.Logic.{_↔_, ⊎-elim}
 use Prim.Native.Nat.{ℕ, zero, suc, _+_, _-_, _*_, _/_, _%_, _^_, _≤_, _<_, suc-le-suc}
 use native.Mathlib.Nat.{mod-lt, div-one, zero-div, pow-suc, zero-lt-suc, lt-of-le-of-lt, one-mul, zero-add, eq-or-lt-of-le, pos-of-ne-zero}
-use native.Mathlib.Numerals.{one-add}
+use native.Mathlib.Numerals.{one-add, add-one}
 use native.Mathlib.Omega.{arith}
 use native.Mathlib.Decide.{decLt}
 use borrow.Author.Tests.{eqb-true, eq-eqb, lt-ltb}
@@ -204,12 +204,23 @@ wordOf-sum (suc n) p = let e = wordOf-sum n (λ i. p (suc i)) in omega (arith, d
     double true = pow-suc 2 n
     double false = refl
 
-pub wordOf-suc : (n : ℕ) (p : ℕ → Bool) → wordOf (suc n) p ≡ cond (p n) (bitOr (wordOf n p) (2 ^ n)) (wordOf n p)
+wordOf-suc : (n : ℕ) (p : ℕ → Bool) → wordOf (suc n) p ≡ cond (p n) (bitOr (wordOf n p) (2 ^ n)) (wordOf n p)
 wordOf-suc n p = wordOf-sum n p ∙ go (p n)
   where
     go : (b : Bool) → cond b (2 ^ n) 0 + wordOf n p ≡ cond b (bitOr (wordOf n p) (2 ^ n)) (wordOf n p)
     go true = sym (simp one-mul at (or-shifted-r 1 n (wordOf n p) (wordOf-lt n p)))
     go false = zero-add (wordOf n p)
+
+-- a place more: where the test holds of it, and where it does not
+module _ (p : ℕ → Bool) (n out next : ℕ) (d : out ≡ wordOf n p) where
+  one-more : wordOf (n + 1) p ≡ cond (p n) (bitOr out (2 ^ n)) out
+  one-more = rw (add-one n, d) (wordOf-suc n p)
+
+  pub word-in : So (p n) → (joined : ℕ) → joined ≡ bitOr out (2 ^ n) → next ≡ joined → next ≡ wordOf (n + 1) p
+  word-in e joined u v = v ∙ u ∙ sym (rw e at one-more)
+
+  pub word-out : p n ≡ false → next ≡ out → next ≡ wordOf (n + 1) p
+  word-out e v = v ∙ sym (rw e at one-more)
 
 -- ---- the n lowest cells
 pub full-wordOf : (n : ℕ) → 2 ^ n - 1 ≡ wordOf n (λ i. true)

@@ -3,17 +3,18 @@ use Prim.Native.Nat.{_-_}
 use native.Mathlib.Omega.{arith}
 use borrow.Author.Needs.{needs}
 use Rattle.compare_entries.specs.Parting.{lists}
-use Rattle.compare_pair.specs.Settling.{chart, basis}
+use Rattle.compare_pair.specs.Settling.{chart, basisWith}
+use Rattle.compare_round.specs.Idle.{idleIn}
 use Rattle.compare_round.proofs.Exits.{InMap, map-begun, map-stands, map-places, rows-few, map-next, map-done}
 use Rattle.compare_round.proofs.settle_all.Statement.{statement}
 use Rattle.compare_round.proofs.settle_all.Tie as tie
 
 abbrev Inv-loop : tie.InvT-loop
-Inv-loop sa la ta ea sb lb tb eb rows columns old room₀ map₀ new₀ sizes n p₀ row₀ room map new p row =
-    InMap (basis (chart sa la ta ea) (chart sb lb tb eb) sizes rows columns) row (lists room₀ p₀ map₀ old new₀) (lists room p map old new)
+Inv-loop sa la ta ea sb lb tb eb rows columns old room₀ map₀ new₀ sizes live n p₀ row₀ room map new p row =
+    InMap (basisWith (idleIn live) (chart sa la ta ea) (chart sb lb tb eb) sizes rows columns) row (lists room₀ p₀ map₀ old new₀) (lists room p map old new)
 
 abbrev μ-loop : tie.MeasureT-loop
-μ-loop sa la ta ea sb lb tb eb rows columns old room₀ map₀ new₀ sizes n p₀ row₀ room map new p row = n - row
+μ-loop sa la ta ea sb lb tb eb rows columns old room₀ map₀ new₀ sizes live n p₀ row₀ room map new p row = n - row
 
 loop-holds : tie.Need-loop-holds Inv-loop μ-loop
 loop-holds c = search map-begun
