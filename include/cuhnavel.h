@@ -73,7 +73,8 @@ uint64_t cuhnavel_check_sheet(const uint8_t *bytes, size_t len);
  * book's number of cells and m the right one's:
  *   map      n x m places. Place i x m + j becomes 0 where left cell i and right cell j are matched, that is where no question
  *            within the bound is true at the one and false at the other; else it becomes the number of an entry of the sheet
- *            whose question is true at left cell i and false at right cell j.
+ *            whose question is true at left cell i and false at right cell j, and has the smallest depth of all questions within
+ *            the bound that are so. That is at most n x m.
  *   room     at least 10 + 44 x n x m bytes, or 10 + 52 x n x m if either book is of version 2. It starts with the sheet of these
  *            questions, for the bound, which is of version 2 if either book is, else of version 1; the bytes after the sheet are as
  *            they were.
@@ -99,7 +100,8 @@ uint64_t cuhnavel_compare(const uint8_t *left, size_t left_len, const uint8_t *r
  * but for:
  *   map      Place i x m + j becomes 0 where left cell i is covered by right cell j, that is where every question without "not" within
  *            the bound that is true at left cell i is true at right cell j; else it becomes the number of an entry of the sheet whose
- *            question has no "not", is true at left cell i and false at right cell j.
+ *            question has no "not", is true at left cell i and false at right cell j, and has the smallest depth of all questions
+ *            without "not" within the bound that are so. That, too, is at most n x m.
  *   room     No entry of the sheet is a "not".
  * Cells that are matched cover each other; cells that cover each other need not be matched. Here, too, which question is taken is fixed.
  * Accepted: first is the sheet's length in bytes, second the number of covered pairs.

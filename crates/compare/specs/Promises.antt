@@ -12,14 +12,16 @@ use Rattle.fields.specs.Laws.{field-append-left}
 use Rattle.theory.specs.Graph.{Graph}
 use Rattle.theory.specs.Expression.{NodeExpr}
 use Rattle.theory.specs.Meaning.{holds}
-use Rattle.theory.specs.Bound.{Within}
+use Rattle.theory.specs.Bound.{Within, depth}
 use Rattle.theory.specs.Bisimulation.{Sides, twoSided, Spoken, Greatest}
 use Rattle.theory.specs.Rounds.{matched}
+use Rattle.theory.specs.Parting.{LeastDepth}
+use Rattle.theory.specs.Theorems.{least-shallow}
 use Rattle.book.specs.Book.{cellsOf, bookRefusal}
 use Rattle.book.specs.BookGraph.{graphOf}
 use Rattle.book.specs.Contents.{SameContents}
 use Rattle.book.specs.VersionLaws.{same-graph}
-use Rattle.sheet.specs.Sheet.{mostBound, lengthOf, countOf, sheetAnswer}
+use Rattle.sheet.specs.Sheet.{mostBound, lengthOf, countOf, questionOf, sheetAnswer}
 use Rattle.sheet.specs.PassedLaws.{accepted-head}
 use Rattle.sheet.specs.WrittenLaws.{Writable, written-good, written-answer, written-count, written-question}
 use Rattle.sheet.specs.declared.SheetAnswer.the-variants.{Accepted}
@@ -30,11 +32,11 @@ use Rattle.compare_laws.specs.Places.{placed}
 use Rattle.compare_laws.specs.Refining.{Comparable, Compared}
 use Rattle.compare_laws.specs.DefinedLaws.{comparison-compared, comparison-any}
 use Rattle.compare_laws.specs.Places.{zeroPairs}
-use Rattle.compare_laws.specs.Theorems.{zeroPairs-settled, zeroPairs-greatest, zero-keeps as place-keeps, zero-agrees, nonzero-simplest, compared-writable, compared-room}
+use Rattle.compare_laws.specs.Theorems.{zeroPairs-settled, zeroPairs-greatest, zero-keeps as place-keeps, zero-agrees, compared-writable, compared-room}
 use Rattle.compare_lists.specs.BookSetting.{sheetVersion, settingOf}
 use Rattle.compare_lists.specs.Laws.{books-comparable}
 use Rattle.compare.specs.Compare.{pairsOf, compared, comparedMap, comparedSheet}
-use Rattle.compare.specs.Parted.{PartedBy, ToldBy}
+use Rattle.compare.specs.Parted.{PartedBy}
 
 -- The books are accepted (and are bytes, as all that is lent), and the bound is at most 4.
 pub record Given (l r : List ℕ) (c : ℕ) : Type 0 where
@@ -82,20 +84,18 @@ module _ (x : Sides) {l r : List ℕ} {c : ℕ} (g : Given l r c) where
     pub zero-keeps : (placed (cellsOf r) (comparedMap x l r c) i j ≡ 0) ↔ ((q : NodeExpr) → Within c q → Spoken x q → holds (graphOf l) q i ≡ true → holds (graphOf r) q j ≡ true)
     zero-keeps = place-keeps comparable done i j o u
 
-    -- Another number is that of a question of the sheet that is true at the left cell and false at the right one, than which none is less deep.
-    pub nonzero-tells : placed (cellsOf r) (comparedMap x l r c) i j ≢ 0 → ToldBy x l r c (comparedSheet x l r c) i j (placed (cellsOf r) (comparedMap x l r c) i j)
-    nonzero-tells e =
-        let k = placed (cellsOf r) (comparedMap x l r c) i j in
-        let same = written-question writable k in
-        let p = done .parts i j o u e in
+    -- Another number is that of a question with the smallest depth of all within the bound (one-sided, without "not") that are true left and false right (02, 2026-06),
+    pub nonzero-least : placed (cellsOf r) (comparedMap x l r c) i j ≢ 0
+        → LeastDepth x (graphOf l) (graphOf r) c i j (depth (questionOf (comparedSheet x l r c) (placed (cellsOf r) (comparedMap x l r c) i j)))
+    nonzero-least e = rw (written-question writable (placed (cellsOf r) (comparedMap x l r c) i j)) (done .least i j o u e)
+
+    -- and itself one of these, of the sheet. Its depth is at most left cells × right cells, since the smallest is.
+    pub nonzero-parts : placed (cellsOf r) (comparedMap x l r c) i j ≢ 0 → PartedBy x l r c (comparedSheet x l r c) i j (placed (cellsOf r) (comparedMap x l r c) i j)
+    nonzero-parts e =
         record {
           named = rw (written-count writable) (done .number i j o u e);
-          within = rw same (p .within);
-          spoken = rw same (p .spoken);
-          left = rw same (p .left);
-          right = rw same (p .right);
-          shallow = rw same (p .shallow);
-          least = rw same (done .least i j o u e);
+          tells = rw (written-question writable (placed (cellsOf r) (comparedMap x l r c) i j)) (done .tells i j o u e);
+          shallow = least-shallow x c (comparable .formed .0) (comparable .formed .1) i j o u _ (nonzero-least e);
         }
 
 module _ {l r : List ℕ} {c : ℕ} (g : Given l r c) where
@@ -104,18 +104,9 @@ module _ {l r : List ℕ} {c : ℕ} (g : Given l r c) where
   zeros-matched = zeroPairs-settled (comparable twoSided g) (done twoSided g)
 
   module _ (i j : ℕ) (o : i < cellsOf l) (u : j < cellsOf r) where
-    -- Demand 3: a place holds 0 exactly when every question within the bound, of any size, is true at both cells or false at both;
+    -- Demand 3: a place holds 0 exactly when every question within the bound, of any size, is true at both cells or false at both.
     pub zero-exactly : (placed (cellsOf r) (comparedMap twoSided l r c) i j ≡ 0) ↔ ((q : NodeExpr) → Within c q → holds (graphOf l) q i ≡ holds (graphOf r) q j)
     zero-exactly = zero-agrees (comparable twoSided g) refl (done twoSided g) i j o u
-
-    -- another number is that of a question of the sheet that parts its pair.
-    pub nonzero-parts : placed (cellsOf r) (comparedMap twoSided l r c) i j ≢ 0
-        → PartedBy l r c (comparedSheet twoSided l r c) i j (placed (cellsOf r) (comparedMap twoSided l r c) i j)
-    nonzero-parts e =
-        let (n, d, s) = nonzero-simplest (comparable twoSided g) refl (done twoSided g) i j o u e in
-        let w = writable twoSided g in
-        let same = written-question w (placed (cellsOf r) (comparedMap twoSided l r c) i j) in
-        record { named = rw (written-count w) n; simplest = rw same s; shallow = rw same d }
 
 -- Books that are one graph each are compared alike: the same places and the same entries, in whatever versions the books and the sheet are written.
 pub compared-alike : (x : Sides) (l l′ r r′ : List ℕ) (c : ℕ) → graphOf l ≡ graphOf l′ → graphOf r ≡ graphOf r′

@@ -11,3 +11,4 @@ pub mod WritingLaws
 pub mod RoundLaws
 pub mod DefinedLaws
 pub mod Theorems
+pub mod Examples

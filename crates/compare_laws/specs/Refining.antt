@@ -1,5 +1,5 @@
 -- The comparison as it is computed, on entries and numbers: what holds between the steps, and what is promised in the end.
-use mathlib.Core.Bool.{true, false, So}
+use mathlib.Core.Bool.{false, So}
 use mathlib.Core.List.{List}
 use mathlib.Core.Logic.{_↔_, _≢_}
 use mathlib.Core.Path.{_≡_}
@@ -7,11 +7,10 @@ use Prim.Native.Nat.{ℕ, suc, _+_, _*_, _<_, _≤_}
 use lib.ListN.{length, getD, set}
 use Rattle.theory.specs.Graph.{WellFormed}
 use Rattle.theory.specs.Expression.{NodeExpr}
-use Rattle.theory.specs.Meaning.{holds}
-use Rattle.theory.specs.Bound.{Within, depth}
-use Rattle.theory.specs.Bisimulation.{Relation, flip, twoSided, Spoken}
+use Rattle.theory.specs.Bound.{depth}
+use Rattle.theory.specs.Bisimulation.{Relation, flip, twoSided}
 use Rattle.theory.specs.Rounds.{related, settled}
-use Rattle.theory.specs.Parting.{Parts, Describes, Described, Fails}
+use Rattle.theory.specs.Parting.{Tells, LeastDepth, Parts, Describes, Described, Fails}
 use Rattle.theory.specs.Choosing.{Symmetric}
 use Rattle.sheet.specs.Entry.{Entry, expression}
 use Rattle.sheet.specs.Sheet.{mostVersion, mostBound}
@@ -109,8 +108,7 @@ pub record Written (s : Setting) (k a b : ℕ) (now next : State) (i : ℕ) : Ty
 
 -- ---- what is promised in the end
 
--- The zeros of the map are the matched pairs. Every other number names an expression that parts its pair, no deeper than n × m, and than which no
--- shallower one does.
+-- The zeros of the map are the matched pairs. Every other number names an expression that parts its pair, of the smallest depth of those that do.
 pub record Compared (s : Setting) (es : List Entry) (map : List ℕ) : Type 0 where
   pub entries : es ≡ comparison s .entries
   pub places : map ≡ comparison s .map
@@ -120,7 +118,7 @@ pub record Compared (s : Setting) (es : List Entry) (map : List ℕ) : Type 0 wh
   pub size : length map ≡ pairs s
   pub zeros : (a b : ℕ) → a < s .left .size → b < s .right .size → (placed (s .right .size) map a b ≡ 0) ↔ So (related (settled (s .sides) (s .left) (s .right) (s .bound)) a b)
   pub number : (a b : ℕ) → a < s .left .size → b < s .right .size → placed (s .right .size) map a b ≢ 0 → placed (s .right .size) map a b < length es
-  pub parts : (a b : ℕ) → a < s .left .size → b < s .right .size → placed (s .right .size) map a b ≢ 0
-      → PartsPair s (pairs s) a b (expression es (placed (s .right .size) map a b))
+  pub tells : (a b : ℕ) → a < s .left .size → b < s .right .size → placed (s .right .size) map a b ≢ 0
+      → Tells (s .sides) (s .left) (s .right) (s .bound) a b (expression es (placed (s .right .size) map a b))
   pub least : (a b : ℕ) → a < s .left .size → b < s .right .size → placed (s .right .size) map a b ≢ 0
-      → (q : NodeExpr) → Within (s .bound) q → Spoken (s .sides) q → depth q < depth (expression es (placed (s .right .size) map a b)) → holds (s .left) q a ≡ true → holds (s .right) q b ≡ true
+      → LeastDepth (s .sides) (s .left) (s .right) (s .bound) a b (depth (expression es (placed (s .right .size) map a b)))

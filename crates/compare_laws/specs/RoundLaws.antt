@@ -12,10 +12,8 @@ use borrow.Author.Tests.{eqb-true, eq-eqb, ne-eqb, lt-leb}
 use Rattle.theory.specs.Bisimulation.{Relation}
 use Rattle.theory.specs.Rounds.{related, round, rounds, settled}
 use Rattle.theory.specs.TestLaws.{facts, le-or-lt}
-use Rattle.theory.specs.GreatestLaws.{related-iff, fixed, still-settled, round-most}
-use Rattle.theory.specs.FamilyLaws.{rounds-family}
-use Rattle.theory.specs.InvarianceLaws.{keeps}
-use Rattle.theory.specs.DescribingLaws.{always-describes, parts-drop}
+use Rattle.theory.specs.GreatestLaws.{related-iff, fixed, still-settled}
+use Rattle.theory.specs.DescribingLaws.{always-describes, parts-least}
 use Rattle.sheet.specs.Entry.{Entry}
 use Rattle.sheet.specs.Encoding.{bodyOf, encodeEntry, encode}
 use Rattle.compare_laws.specs.Places.{placed, unparted}
@@ -173,20 +171,11 @@ module _ {s : Setting} (g : Comparable s) where
         size = inv .size;
         zeros = λ a b o u. (λ e. sym (f a b o u) ∙ eq-eqb _ 0 e, λ e. eqb-true _ 0 (f a b o u ∙ e));
         number = λ a b o u e. inv .named a b o u (ne-eqb _ 0 e) .number;
-        parts = λ a b o u e.
+        tells = λ a b o u e. inv .named a b o u (ne-eqb _ 0 e) .parts .tells;
+        least = λ a b o u e.
             let t = inv .named a b o u (ne-eqb _ 0 e) in
-            let p = t .parts in
-            let drop = parts-drop (s .sides) (s .bound) (g .formed .0) (g .formed .1) (suc (t .round)) a b _ p in
-            record {
-              within = p .within;
-              spoken = p .spoken;
-              shallow = omega (arith, p .shallow, round-most (s .sides) (s .bound) (g .formed .0) (g .formed .1) (t .round) a b (t .before) drop);
-              left = p .left;
-              right = p .right;
-            };
-        least = λ a b o u e q w i d h.
-            let t = inv .named a b o u (ne-eqb _ 0 e) in
-            keeps q (rounds-family (s .sides) (s .bound) (g .formed .0) (g .formed .1)) w i (t .round) a b (omega (arith, t .parts .shallow)) (t .before) h;
+            let (exact, least) = parts-least (s .sides) (s .bound) (g .formed .0) (g .formed .1) (t .round) a b _ (t .before) (t .parts) in
+            rw exact least;
       }
 
   still-is : {k : ℕ} {now : State} → Refined s k (pairs s) now → tableAfter s k ≡ lastTable s

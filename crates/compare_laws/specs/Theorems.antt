@@ -1,24 +1,22 @@
--- What follows for the entries and the map that a comparison leaves: demands 2 and 3 of its zeros and its other numbers, and that a sheet has room for
--- the entries. (`Compared` of `Refining` is what code has to reach.)
-use mathlib.Core.Bool.{Bool, true, false, not, So, false≢true}
+-- What follows for the entries and the map that a comparison leaves: demands 2 and 3 of its zeros, and that a sheet has room for the entries.
+-- (What is said of its other numbers stands in `Compared` of `Refining`, which is what code has to reach.)
+use mathlib.Core.Bool.{true}
 use mathlib.Core.List.{List}
-use mathlib.Core.Logic.{_↔_, _≢_, Iff·trans}
-use mathlib.Core.Path.{_≡_, refl, sym, _∙_}
+use mathlib.Core.Logic.{_↔_, Iff·trans}
+use mathlib.Core.Path.{_≡_, _∙_}
 use Prim.Native.Nat.{ℕ, _<_, _≤_}
 use native.Mathlib.Omega.{arith}
 use native.Mathlib.Nat.{mul-le-mul, mul-le-mul-left}
 use lib.ListN.{length}
-use Rattle.theory.specs.Expression.{NodeExpr, neg}
+use Rattle.theory.specs.Expression.{NodeExpr}
 use Rattle.theory.specs.Meaning.{holds}
-use Rattle.theory.specs.Bound.{Within, depth}
+use Rattle.theory.specs.Bound.{Within}
 use Rattle.theory.specs.Bisimulation.{Spoken, Greatest, twoSided}
 use Rattle.theory.specs.Rounds.{related, settled}
 use Rattle.theory.specs.TestLaws.{eqb-iff, test-eq}
 use Rattle.theory.specs.GreatestLaws.{greatest}
-use Rattle.theory.specs.ClauseLaws.{apart}
 use Rattle.theory.specs.DescribingLaws.{agree-iff, keep-iff, after-ext}
-use Rattle.theory.specs.Parting.{Simplest}
-use Rattle.sheet.specs.Entry.{Entry, expression}
+use Rattle.sheet.specs.Entry.{Entry}
 use Rattle.sheet.specs.Encoding.{sheetBytes}
 use Rattle.sheet.specs.WrittenLaws.{Writable, written-length}
 use Rattle.compare_laws.specs.Places.{placed, unparted, zeroPairs, nonzeros}
@@ -45,35 +43,10 @@ module _ {s : Setting} {es : List Entry} {map : List ℕ} (g : Comparable s) (t 
     pub zero-keeps : (placed (s .right .size) map a b ≡ 0) ↔ ((q : NodeExpr) → Within (s .bound) q → Spoken (s .sides) q → holds (s .left) q a ≡ true → holds (s .right) q b ≡ true)
     zero-keeps = Iff·trans (t .zeros a b o u) (keep-iff (s .sides) (s .bound) (g .formed .0) (g .formed .1) a b o u)
 
--- two tests are equal where the first makes the second pass, and its failure makes the second fail
-test-eq-not : (x y : Bool) → (So x → So y) → (So (not x) → So (not y)) → x ≡ y
-test-eq-not true y f g = sym (f refl)
-test-eq-not false true f g = absurd (false≢true (g refl))
-test-eq-not false false f g = refl
-
 module _ {s : Setting} {es : List Entry} {map : List ℕ} (g : Comparable s) (both : s .sides ≡ twoSided) (t : Compared s es map) (a b : ℕ) (o : a < s .left .size) (u : b < s .right .size) where
-  -- Demand 3: a place holds 0 exactly when every node expression within the bound, of any size, has one truth at both nodes;
+  -- Demand 3: a place holds 0 exactly when every node expression within the bound, of any size, has one truth at both nodes.
   pub zero-agrees : (placed (s .right .size) map a b ≡ 0) ↔ ((q : NodeExpr) → Within (s .bound) q → holds (s .left) q a ≡ holds (s .right) q b)
   zero-agrees = Iff·trans (t .zeros a b o u) (rw both (agree-iff (s .bound) (g .formed .0) (g .formed .1) a b o u))
-
-  -- and another number is that of an entry, whose expression keeps to the bound, is true at the left node and false at the right one, and is no deeper than
-  -- left nodes × right nodes. None that tells the nodes apart is less deep.
-  pub nonzero-simplest : placed (s .right .size) map a b ≢ 0
-      → (placed (s .right .size) map a b < length es) × (depth (expression es (placed (s .right .size) map a b)) ≤ pairs s)
-      × Simplest (s .left) (s .right) (s .bound) a b (expression es (placed (s .right .size) map a b))
-  unfolding Within depth holds
-  nonzero-simplest e =
-      let p = t .parts a b o u e in
-      let least = t .least a b o u e in (
-        t .number a b o u e,
-        p .shallow,
-        record {
-          within = p .within;
-          left = p .left;
-          right = p .right;
-          least = λ q w d. test-eq-not _ _ (least q w (λ i. apart i both) d) (least (neg q) w (λ i. apart i both) d);
-        },
-      )
 
 -- ---- the sheet
 

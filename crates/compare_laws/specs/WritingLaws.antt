@@ -13,7 +13,7 @@ use Rattle.theory.specs.Bisimulation.{Relation, flip, Sides, oneSided, twoSided
 use Rattle.theory.specs.ClauseLaws.{apart}
 use Rattle.theory.specs.Parting.{Parts, Describes, Reason, Fails}
 use Rattle.theory.specs.PartingLaws.{parting, part-back}
-use Rattle.theory.specs.DescribingLaws.{always-holds, conj-describes}
+use Rattle.theory.specs.DescribingLaws.{always-holds, parts-describes, conj-describes}
 use Rattle.sheet.specs.Entry.{Entry, negation, conjunction, spell, expressions, expression}
 use Rattle.sheet.specs.ExpressionLaws.{expression-front, expression-last}
 use Rattle.sheet.specs.Sheet.{mostBound}
@@ -39,17 +39,6 @@ record Conjoined (s : Setting) (d : ℕ) (z : Relation) (x : ℕ) (es : List Ent
   room : length (encode (s .version) (conjoined es i j)) ≤ length (encode (s .version) es) + 6
   here : (xs : List ℕ) → Redescribed s d z (conjoined es i j) xs (set xs x (conjoint es i j)) x
 
--- what parts x from b describes x among b alone
-parts-describes : {s : Sides} {l r : Graph} {c d x b : ℕ} (z : Relation) {q : NodeExpr} → Parts s l r c d x b q → Describes s l r c d z x (λ y. y ≡ b) q
-parts-describes z t =
-    record {
-      within = t .within;
-      spoken = t .spoken;
-      shallow = t .shallow;
-      own = t .left;
-      only = λ y v h. absurd (false≢true (sym (t .right) ∙ (rw v at h)));
-    }
-
 module _ {s : Sides} {l r : Graph} {c d x b : ℕ} {z : Relation} (z′ : Relation) (less : (y : ℕ) → y < r .size → y ≢ b → So (z x y) → So (z′ x y)) where
   -- besides what describes x for a relation, what parts x from b describes it without b
   conj-narrower : {q p : NodeExpr} → Describes s l r c d z x (λ y. y < r .size) q → Parts s l r c d x b p
@@ -63,11 +52,11 @@ module _ {s : Sides} {l r : Graph} {c d x b : ℕ} {z : Relation} (z′ : Relati
       → Describes s l r c d z′ x (λ y. y < r .size) p
   parts-narrower t p =
       record {
-        within = p .within;
-        spoken = p .spoken;
+        within = p .tells .within;
+        spoken = p .tells .spoken;
         shallow = p .shallow;
-        own = p .left;
-        only = λ y u e. less y u (λ v. false≢true (sym (p .right) ∙ (rw v at e))) (t .only y u (always-holds r y u));
+        own = p .tells .left;
+        only = λ y u e. less y u (λ v. false≢true (sym (p .tells .right) ∙ (rw v at e))) (t .only y u (always-holds r y u));
       }
 
 module _ {s : Setting} {d x b : ℕ} {z : Relation} (z′ : Relation) (less : (y : ℕ) → y < s .right .size → y ≢ b → So (z x y) → So (z′ x y)) where

@@ -15,8 +15,9 @@ use lib.ListN.{length, take, drop, getD}
 use Rattle.fields.specs.Fields.{Bytes}
 use Rattle.theory.specs.Expression.{NodeExpr, Positive}
 use Rattle.theory.specs.Meaning.{holds}
-use Rattle.theory.specs.Bound.{Within}
+use Rattle.theory.specs.Bound.{Within, depth}
 use Rattle.theory.specs.Bisimulation.{Sides, oneSided, twoSided, Greatest}
+use Rattle.theory.specs.Parting.{LeastDepth}
 use Rattle.words.specs.Words.{bit}
 use Rattle.words.specs.Laws.{bit-wordOf}
 use Rattle.book.specs.Book.{cellsOf, bookRefusal}
@@ -35,8 +36,8 @@ use Rattle.compare_laws.specs.Places.{zeroPairs}
 use Rattle.compare.specs.declared.CompareAnswer.{CompareAnswer}
 use Rattle.compare.specs.declared.CompareAnswer.the-variants as says
 use Rattle.compare.specs.Compare.{comparedMap, comparedSheet, Lists, leftBy, rightAnswer, IsCompare, Accepts}
-use Rattle.compare.specs.Parted.{PartedBy, ToldBy}
-use Rattle.compare.specs.Promises.{Given, sheet-accepted, sheet-found, zeros-greatest, zero-keeps, nonzero-tells, zero-exactly, nonzero-parts, contents-alike}
+use Rattle.compare.specs.Parted.{PartedBy}
+use Rattle.compare.specs.Promises.{Given, sheet-accepted, sheet-found, zeros-greatest, zero-keeps, nonzero-least, nonzero-parts, zero-exactly, contents-alike}
 use Rattle.compare.specs.Laws.{accepts-compared}
 
 -- ---- what Compare leaves
@@ -75,6 +76,17 @@ module _ {x : Sides} {l r : List ℕ} {c : ℕ} {before now : Lists} {a : Compar
   pub accepts-sheet : sheetAnswer (sheetIn (now .room)) ≡ Accepted (countOf (sheetIn (now .room))) c
   accepts-sheet = rw sheet-is (sheet-accepted x books)
 
+  module _ (i j : ℕ) (o : i < cellsOf l) (u : j < cellsOf r) where
+    -- What the map names for a parted pair, in either form; demand 3 and 02, 2026-03, below, say it in their words.
+    pub named-parts : placed (cellsOf r) (now .map) i j ≢ 0 → PartedBy x l r c (sheetIn (now .room)) i j (placed (cellsOf r) (now .map) i j)
+    named-parts = rw (map-is, sheet-is) (nonzero-parts x books i j o u)
+
+    -- "The question for each parted pair has exactly the smallest depth of any question within the bound that is true left and false right. One-way, the smallest among
+    -- those without "not"" (02, 2026-06). That it is "no deeper than n × m" follows from this: some such question is (`told-shallow` of the theory).
+    pub named-least : placed (cellsOf r) (now .map) i j ≢ 0
+        → LeastDepth x (graphOf l) (graphOf r) c i j (depth (questionOf (sheetIn (now .room)) (placed (cellsOf r) (now .map) i j)))
+    named-least = rw (map-is, sheet-is) (nonzero-least x books i j o u)
+
 module _ {l r : List ℕ} {c : ℕ} {before now : Lists} {a : CompareAnswer} (t : IsCompare twoSided l r c before a now) (bytes : Bytes l × Bytes r)
     (given : Accepts l r c (length (before .map)) (length (before .room)) (length (before .scratch))) where
   -- Demand 2: "For accepted books and a bound of 0 to 4, the pairs marked matched are the greatest data-aware bisimulation for that bound: they form one, and
@@ -88,8 +100,8 @@ module _ {l r : List ℕ} {c : ℕ} {before now : Lists} {a : CompareAnswer} (t 
     demand-3-matched = rw (map-is t bytes given) (zero-exactly (books t bytes given) i j o u)
 
     -- "each parted pair's map entry names a question of the sheet within the bound, true left, false right, no deeper than left cells × right cells."
-    pub demand-3-parted : placed (cellsOf r) (now .map) i j ≢ 0 → PartedBy l r c (sheetIn (now .room)) i j (placed (cellsOf r) (now .map) i j)
-    demand-3-parted = rw (map-is t bytes given, sheet-is t bytes given) (nonzero-parts (books t bytes given) i j o u)
+    pub demand-3-parted : placed (cellsOf r) (now .map) i j ≢ 0 → PartedBy twoSided l r c (sheetIn (now .room)) i j (placed (cellsOf r) (now .map) i j)
+    demand-3-parted = named-parts t bytes given i j o u
 
 -- ---- what Compare leaves one-way (02, 2026-03)
 
@@ -108,9 +120,9 @@ module _ {l r : List ℕ} {c : ℕ} {before now : Lists} {a : CompareAnswer} (t 
         rw (map-is t bytes given) (λ e q w p. keeps .0 e q w (λ _. p), λ k. keeps .1 (λ q w p. k q w (p refl)))
 
     -- "Each uncovered pair gets a question without "not" that is true left and false right": one of the sheet, within the bound, no deeper than left cells × right
-    -- cells, and than which no other such question is less deep.
-    pub uncovered-told : placed (cellsOf r) (now .map) i j ≢ 0 → ToldBy oneSided l r c (sheetIn (now .room)) i j (placed (cellsOf r) (now .map) i j)
-    uncovered-told = rw (map-is t bytes given, sheet-is t bytes given) (nonzero-tells oneSided (books t bytes given) i j o u)
+    -- cells.
+    pub uncovered-told : placed (cellsOf r) (now .map) i j ≢ 0 → PartedBy oneSided l r c (sheetIn (now .room)) i j (placed (cellsOf r) (now .map) i j)
+    uncovered-told = named-parts t bytes given i j o u
 
 -- "Matched pairs are covered both ways": of three calls on two books and a bound.
 module _ {l r : List ℕ} {c : ℕ} {before now before₁ now₁ before₂ now₂ : Lists} {a a₁ a₂ : CompareAnswer} (t : IsCompare twoSided l r c before a now)

@@ -4,9 +4,9 @@
 -- By induction on the rounds (`account`). Before the first, "always true" describes every node: all pairs are related. Let chi describe the nodes after
 -- round k. A pair that round k + 1 drops fails a clause (`goes`), from the left or, if both sides count, from the right; by `PartingLaws` an expression
 -- of depth k + 1 then distinguishes it. The conjunction over all nodes b of what distinguishes a from b, or of "always true" where (a, b) stays,
--- describes a after round k + 1 (`narrower`). So a dropped pair has an expression of depth k + 1 (`drops`), and none of depth at most k, since related
--- nodes keep those (`InvarianceLaws`). As the rounds settle within n × m, no depth is above n × m (`dropped`); and a pair that stays to the end keeps
--- every expression within the bound, while the description of a tells it from all others (`agree-iff`, `keep-iff`).
+-- describes a after round k + 1 (`narrower`). So a dropped pair has an expression of depth k + 1, and none of depth at most k, since related nodes keep
+-- those (`InvarianceLaws`): k + 1 is the least depth (`parts-least`). As the rounds settle within n × m, none is above n × m (`dropped`); and a pair that stays
+-- to the end keeps every expression within the bound, while the description of a tells it from all others (`agree-iff`, `keep-iff`).
 use mathlib.Core.Bool.{Bool, true, false, So, false≢true}
 use mathlib.Core.Logic.{_↔_, _⊎_, inl, inr, ⊎-elim}
 use mathlib.Core.Path.{_≡_, refl, sym, _∙_, fun-ext}
@@ -25,7 +25,7 @@ use Rattle.theory.specs.ClauseLaws.{zigs-iff, zags-iff}
 use Rattle.theory.specs.GreatestLaws.{next-iff, related-iff, after-inside, greatest, round-most}
 use Rattle.theory.specs.FamilyLaws.{steady, rounds-family}
 use Rattle.theory.specs.InvarianceLaws.{keeps, bisimulation-agrees}
-use Rattle.theory.specs.Parting.{Parts, Describes, Described, Describable, Reason, byLink, byPaths, Fails, asked}
+use Rattle.theory.specs.Parting.{Tells, LeastDepth, Parts, Describes, Described, Describable, Reason, byLink, byPaths, Fails, asked}
 use Rattle.theory.specs.PartingLaws.{parting, part-back}
 
 -- a clause that is not met: which link, or which two paths
@@ -63,6 +63,18 @@ unfolding Within Positive depth
 always-describes {l = l} {x = x} o f =
     record { within = tt; spoken = λ _. tt; shallow = omega arith; own = always-holds l x o; only = λ y u _. f y u }
 
+-- what distinguishes x from b describes x among b alone
+pub parts-describes : {s : Sides} {l r : Graph} {c d x b : ℕ} (z : Relation) {q : NodeExpr} → Parts s l r c d x b q → Describes s l r c d z x (λ y. y ≡ b) q
+parts-describes z p =
+    let t = p .tells in
+    record {
+      within = t .within;
+      spoken = t .spoken;
+      shallow = p .shallow;
+      own = t .left;
+      only = λ y v h. absurd (false≢true (sym (t .right) ∙ (rw v at h)));
+    }
+
 -- a conjunction describes among all nodes that one of its parts covers
 pub conj-describes : {s : Sides} {l r : Graph} {c d : ℕ} {z : Relation} {x : ℕ} {A B C : ℕ → Type 0} {q p : NodeExpr}
     → ((y : ℕ) → C y → A y ⊎ B y) → Describes s l r c d z x A q → Describes s l r c d z x B p → Describes s l r c d z x C (conj q p)
@@ -84,16 +96,7 @@ module _ {s : Sides} {l r : Graph} {c d : ℕ} {z z′ : Relation} {chi : ℕ �
       go : (i j : Bool) → z′ a b ≡ i → z a b ≡ j → (q : NodeExpr) × (a < l .size → b < r .size → Describes s l r c (suc d) z′ a (λ y. y ≡ b) q)
       go true j e g = (always, λ o u. always-describes o (λ y v. rw v e))
       go false true e g =
-          let (q, p) = parted a b g e in (
-            q,
-            λ o u. record {
-              within = p .within;
-              spoken = p .spoken;
-              shallow = p .shallow;
-              own = p .left;
-              only = λ y v h. absurd (false≢true (sym (p .right) ∙ rw v at h));
-            },
-          )
+          let (q, p) = parted a b g e in (q, λ o u. parts-describes z′ p)
       go false false e g = (
         chi a,
         λ o u. let t = f a o in record {
@@ -120,15 +123,6 @@ module _ {s : Sides} {l r : Graph} {c d : ℕ} {z z′ : Relation} {chi : ℕ �
 pub record Account (s : Sides) (l r : Graph) (c k : ℕ) : Type 0 where
   pub lefts : Describable s l r c k (after s l r c k)
   pub rights : s ≡ twoSided → Describable s r l c k (flip (after s l r c k))
-
--- Round k + 1 drops the pair: an expression of depth k + 1 distinguishes it, and none of less.
-pub record Drops (s : Sides) (l r : Graph) (c k a b : ℕ) : Type 0 where
-  pub before : after s l r c k a b ≡ true
-  pub gone : after s l r c (suc k) a b ≡ false
-  pub expression : NodeExpr
-  pub parts : Parts s l r c (suc k) a b expression
-  pub exact : depth expression ≡ suc k
-  pub least : (q : NodeExpr) → Within c q → Spoken s q → depth q ≤ k → holds l q a ≡ true → holds r q b ≡ true
 
 module _ (s : Sides) {l r : Graph} (c : ℕ) (wl : WellFormed l) (wr : WellFormed r) where
   -- a relation among the nodes that agrees there with a round's is the round's
@@ -189,39 +183,34 @@ module _ (s : Sides) {l r : Graph} (c : ℕ) (wl : WellFormed l) (wr : WellForme
   -- what is distinguished at depth k is not related after round k
   pub parts-drop : (k a b : ℕ) (q : NodeExpr) → Parts s l r c k a b q → after s l r c k a b ≡ false
   parts-drop k a b q p =
-      test-fails _ _ (λ e. keeps q (rounds-family s c wl wr) (p .within) (p .spoken) k a b (p .shallow) e (p .left)) (p .right)
+      let t = p .tells in
+      test-fails _ _ (λ e. keeps q (rounds-family s c wl wr) (t .within) (t .spoken) k a b (p .shallow) e (t .left)) (t .right)
 
-  -- a pair that round k + 1 drops
-  pub drops : (k a b : ℕ) → So (after s l r c k a b) → after s l r c (suc k) a b ≡ false → Drops s l r c k a b
-  drops k a b e f =
-      let (q, p) = parted k a b (account k) e f in
-      record { before = e; gone = f; expression = q; parts = p; exact = deep q p; least = λ q w i d h. keeps q (rounds-family s c wl wr) w i k a b d e h }
-    where
-      deep : (q : NodeExpr) → Parts s l r c (suc k) a b q → depth q ≡ suc k
-      deep q p =
-          ⊎-elim (λ i. absurd (false≢true (sym (parts-drop k a b q (record {
-            within = p .within;
-            spoken = p .spoken;
-            shallow = i;
-            left = p .left;
-            right = p .right;
-          })) ∙ e)))
-          (λ i. omega (arith, p .shallow)) (le-or-lt (depth q) k)
+  -- what distinguishes a pair that round k keeps is deeper than k
+  tells-deeper : (k a b : ℕ) (q : NodeExpr) → So (after s l r c k a b) → Tells s l r c a b q → k < depth q
+  tells-deeper k a b q e t =
+      ⊎-elim (λ i. absurd (false≢true (sym (parts-drop k a b q (record { tells = t; shallow = i })) ∙ e))) (λ i. i) (le-or-lt (depth q) k)
 
-  -- a pair of nodes that is not related after round k was dropped by one of the rounds until then
-  dropped-by : (k a b : ℕ) → a < l .size → b < r .size → after s l r c k a b ≡ false → (j : ℕ) × (suc j ≤ l .size * r .size) × Drops s l r c j a b
+  -- so what distinguishes it and is at most k + 1 deep has the least depth, which is k + 1
+  pub parts-least : (k a b : ℕ) (q : NodeExpr) → So (after s l r c k a b) → Parts s l r c (suc k) a b q → (depth q ≡ suc k) × LeastDepth s l r c a b (suc k)
+  parts-least k a b q e p =
+      let exact : depth q ≡ suc k = omega (arith, p .shallow, tells-deeper k a b q e (p .tells)) in
+      (exact, record { some = (q, p .tells, exact); least = λ q′ t. tells-deeper k a b q′ e t })
+
+  -- a pair of nodes that is not related after round k was dropped by one of the rounds until then, and the number of that round is its least depth
+  dropped-by : (k a b : ℕ) → a < l .size → b < r .size → after s l r c k a b ≡ false → (d : ℕ) × (d ≤ l .size * r .size) × LeastDepth s l r c a b d
   unfolding rounds
   dropped-by zero a b o u f = absurd (false≢true (sym f ∙ related-iff _ _ _ a b .1 (o, u, refl)))
   dropped-by (suc k) a b o u f = last (after s l r c k a b) refl (dropped-by k a b o u)
     where
-      last : (i : Bool) → after s l r c k a b ≡ i → (after s l r c k a b ≡ false → (j : ℕ) × (suc j ≤ l .size * r .size) × Drops s l r c j a b)
-          → (j : ℕ) × (suc j ≤ l .size * r .size) × Drops s l r c j a b
-      last true e before = (k, round-most s c wl wr k a b e f, drops k a b e f)
+      last : (i : Bool) → after s l r c k a b ≡ i → (after s l r c k a b ≡ false → (d : ℕ) × (d ≤ l .size * r .size) × LeastDepth s l r c a b d)
+          → (d : ℕ) × (d ≤ l .size * r .size) × LeastDepth s l r c a b d
+      last true e before = let (q, p) = parted k a b (account k) e f in (suc k, round-most s c wl wr k a b e f, parts-least k a b q e p .1)
       last false e before = before e
 
   -- a pair of nodes that the greatest does not hold was dropped by one of the first n × m rounds
   pub dropped : (a b : ℕ) → a < l .size → b < r .size → related (settled s l r c) a b ≡ false
-      → (k : ℕ) × (suc k ≤ l .size * r .size) × Drops s l r c k a b
+      → (d : ℕ) × (d ≤ l .size * r .size) × LeastDepth s l r c a b d
   unfolding settled
   dropped = dropped-by (l .size * r .size)
 

@@ -13,20 +13,23 @@ use Rattle.theory.specs.Path.{Hop, Path, Walk, end}
 use Rattle.theory.specs.Bisimulation.{Relation, Sides, Spoken}
 use Rattle.theory.specs.Rounds.{met}
 
--- The expression distinguishes a from b (01: parts them): within the bound c, at most d deep, true at a in l and false at b in r.
-pub record Parts (s : Sides) (l r : Graph) (c d a b : ℕ) (q : NodeExpr) : Type 0 where
+-- The expression distinguishes a from b (01: parts them): within the bound c, one-sided without "not" (`Spoken`), true at a in l and false at b in r.
+pub record Tells (s : Sides) (l r : Graph) (c a b : ℕ) (q : NodeExpr) : Type 0 where
   pub within : Within c q
   pub spoken : Spoken s q
-  pub shallow : depth q ≤ d
   pub left : holds l q a ≡ true
   pub right : holds r q b ≡ false
 
--- The expression tells a from b, and none of less depth does: within the bound, true at a in the left graph, false at b in the right.
-pub record Simplest (l r : Graph) (c a b : ℕ) (q : NodeExpr) : Type 0 where
-  pub within : Within c q
-  pub left : holds l q a ≡ true
-  pub right : holds r q b ≡ false
-  pub least : (p : NodeExpr) → Within c p → depth p < depth q → holds l p a ≡ holds r p b
+-- "The smallest depth of any question within the bound that is true left and false right. One-way, the smallest among those without "not"" (02, 2026-06):
+-- d is the depth of one, and none is less deep.
+pub record LeastDepth (s : Sides) (l r : Graph) (c a b d : ℕ) : Type 0 where
+  pub some : (q : NodeExpr) × Tells s l r c a b q × (depth q ≡ d)
+  pub least : (q : NodeExpr) → Tells s l r c a b q → d ≤ depth q
+
+-- The expression distinguishes a from b, and is at most d deep.
+pub record Parts (s : Sides) (l r : Graph) (c d a b : ℕ) (q : NodeExpr) : Type 0 where
+  pub tells : Tells s l r c a b q
+  pub shallow : depth q ≤ d
 
 -- The expression describes x among some nodes of r: within the bound c, at most d deep, true at x in l, and of those nodes only at such as z relates to x.
 pub record Describes (s : Sides) (l r : Graph) (c d : ℕ) (z : Relation) (x : ℕ) (among : ℕ → Type 0) (q : NodeExpr) : Type 0 where

@@ -20,7 +20,7 @@ use Rattle.theory.specs.Bound.{len, WithinPath, Within, testDepth, depth
 use Rattle.theory.specs.Path.{Hop, Path, Walk, end}
 use Rattle.theory.specs.Bisimulation.{Relation, Sides, oneSided, twoSided}
 use Rattle.theory.specs.Rounds.{follow, met}
-use Rattle.theory.specs.Parting.{Parts, Describes, Described, pathExpr, Reason, byLink, byPaths, Fails, asked}
+use Rattle.theory.specs.Parting.{Tells, Parts, Describes, Described, pathExpr, Reason, byLink, byPaths, Fails, asked}
 use Rattle.theory.specs.TestLaws.{facts, test-fails}
 use Rattle.theory.specs.WalkLaws.{linked-inside}
 use Rattle.theory.specs.ClauseLaws.{apart}
@@ -77,34 +77,36 @@ module _ {s : Sides} {l r : Graph} {c d : ℕ} {z : Relation} {chi : ℕ → Nod
       let i = linked-inside w a (h .label) y e in
       let k = reached a h e in
       record {
-        within = (tt, (k .within, tt));
-        spoken = λ q. (tt, (k .spoken q, tt));
+        tells = record {
+          within = (tt, (k .within, tt));
+          spoken = λ q. (tt, (k .spoken q, tt));
+          left = simp facts (y, i, (y, i, (e, (y, i, ((refl, k .own), refl)))));
+          right = test-fails _ _ (λ h.
+              let (x, o, (m, o′, (u, (m′, o″, ((j, t), j′))))) = simp facts at h in
+              simp facts (m, o′, (u, k .only m o′ t))) (g .missing);
+        };
         shallow = omega arith;
-        left = simp facts (y, i, (y, i, (e, (y, i, ((refl, k .own), refl)))));
-        right = test-fails _ _ (λ h.
-            let (x, o, (m, o′, (u, (m′, o″, ((j, t), j′))))) = simp facts at h in
-            simp facts (m, o′, (u, k .only m o′ t))) (g .missing);
       }
   parting (byPaths t p q) a b o g =
       let (i, u) = path-own p a o (g .walk) in
       let (i′, u′) = path-own q a o (g .walk′) in
       record {
-        within = (rw path-len (g .short), rw path-len (g .short′), path-within p a (g .walk), path-within q a (g .walk′));
-        spoken = λ e. (path-spoken p a (g .walk) e, path-spoken q a (g .walk′) e);
+        tells = record {
+          within = (rw path-len (g .short), rw path-len (g .short′), path-within p a (g .walk), path-within q a (g .walk′));
+          spoken = λ e. (path-spoken p a (g .walk) e, path-spoken q a (g .walk′) e);
+          left = simp facts (end a p, i, (u, (end a q, i′, (u′, g .ends))));
+          right = test-fails _ _ (λ h.
+              let (x, k, (v, (y, k′, (v′, j)))) = simp facts at h in
+              simp facts (x, k, (path-only p a b x (g .walk) v, (y, k′, (path-only q a b y (g .walk′) v′, j))))) (g .missing);
+        };
         shallow = omega (arith, path-tests p a (g .walk), path-tests q a (g .walk′));
-        left = simp facts (end a p, i, (u, (end a q, i′, (u′, g .ends))));
-        right = test-fails _ _ (λ h.
-            let (x, k, (v, (y, k′, (v′, j)))) = simp facts at h in
-            simp facts (x, k, (path-only p a b x (g .walk) v, (y, k′, (path-only q a b y (g .walk′) v′, j))))) (g .missing);
       }
 
--- What distinguishes b from a distinguishes a from b when it is denied.
+-- What distinguishes b from a distinguishes a from b when it is denied, and is as deep.
+pub tells-back : {s : Sides} {l r : Graph} {c a b : ℕ} {q : NodeExpr} → s ≡ twoSided → Tells s r l c b a q → Tells s l r c a b (neg q)
+unfolding holds Within
+tells-back e t = record { within = t .within; spoken = λ o. apart o e; left = ap not (t .right); right = ap not (t .left) }
+
 pub part-back : {s : Sides} {l r : Graph} {c d a b : ℕ} {q : NodeExpr} → s ≡ twoSided → Parts s r l c d b a q → Parts s l r c d a b (neg q)
-unfolding holds Within depth
-part-back e p = record {
-  within = p .within;
-  spoken = λ o. apart o e;
-  shallow = p .shallow;
-  left = ap not (p .right);
-  right = ap not (p .left);
-}
+unfolding depth
+part-back e p = record { tells = tells-back e (p .tells); shallow = p .shallow }

@@ -4,22 +4,22 @@
 -- (what a round drops, an expression of its depth tells apart).
 -- What a search rests on: `ChoosingLaws` (the reason that comes first), `RowLaws` (rows of a round are equal or disjoint), `CoveringLaws` (which paths
 -- are enough for the clause for two paths).
-use mathlib.Core.Bool.{true, false}
+use mathlib.Core.Bool.{Bool, true, false, not}
 use mathlib.Core.Logic.{_↔_}
-use mathlib.Core.Path.{_≡_}
+use mathlib.Core.Path.{_≡_, refl, sym, ap, _∙_}
 use Prim.Native.Nat.{ℕ, _*_, _<_, _≤_}
 use native.Mathlib.Omega.{arith}
 use Rattle.theory.specs.Graph.{Graph, WellFormed}
-use Rattle.theory.specs.Expression.{NodeExpr}
+use Rattle.theory.specs.Expression.{NodeExpr, neg}
 use Rattle.theory.specs.Meaning.{holds}
 use Rattle.theory.specs.Bound.{Within, depth}
-use Rattle.theory.specs.Bisimulation.{Pairs, pairs, twoSided, Bisimulation, Greatest}
-use Rattle.theory.specs.Rounds.{matched}
-use Rattle.theory.specs.Parting.{Simplest}
+use Rattle.theory.specs.Bisimulation.{Pairs, pairs, Sides, twoSided, Bisimulation, Greatest}
+use Rattle.theory.specs.Rounds.{related, settled, matched}
+use Rattle.theory.specs.Parting.{Tells, LeastDepth}
+use Rattle.theory.specs.TestLaws.{test-fails}
+use Rattle.theory.specs.ClauseLaws.{apart}
 use Rattle.theory.specs.GreatestLaws.{greatest}
-use Rattle.theory.specs.FamilyLaws.{rounds-family}
-use Rattle.theory.specs.InvarianceLaws.{agrees}
-use Rattle.theory.specs.DescribingLaws.{agree-iff, dropped}
+use Rattle.theory.specs.DescribingLaws.{agree-iff, keep-iff, dropped}
 
 module _ {l r : Graph} (c : ℕ) (wl : WellFormed l) (wr : WellFormed r) where
   -- Demand 2: the matched pairs are the greatest bisimulation for the bound. They form one, and every other lies within, computed or not.
@@ -38,20 +38,45 @@ module _ {l r : Graph} (c : ℕ) (wl : WellFormed l) (wr : WellFormed r) where
   }
 
   module _ (a b : ℕ) (left : a < l .size) (right : b < r .size) where
-    -- Demand 3: a pair is matched exactly when every node expression within the bound, of any size, has one truth at both nodes;
+    -- Demand 3: a pair is matched exactly when every node expression within the bound, of any size, has one truth at both nodes.
     pub matched-agrees : (matched l r c a b ≡ true) ↔ ((q : NodeExpr) → Within c q → holds l q a ≡ holds r q b)
     matched-agrees = agree-iff c wl wr a b left right
 
-    -- and a parted pair has an expression within the bound, true left, false right, no deeper than left nodes × right nodes. The simplest is such.
-    pub parted-simplest : matched l r c a b ≡ false → (q : NodeExpr) × (depth q ≤ l .size * r .size) × Simplest l r c a b q
-    parted-simplest f =
-        let (k, i, p) = dropped twoSided c wl wr a b left right f in (
-          p .expression,
-          omega (arith, p .exact),
-          record {
-            within = p .parts .within;
-            left = p .parts .left;
-            right = p .parts .right;
-            least = λ q w h. agrees q (rounds-family twoSided c wl wr) w k a b (omega (arith, p .exact)) (p .before);
-          },
-        )
+module _ (s : Sides) {l r : Graph} (c : ℕ) (wl : WellFormed l) (wr : WellFormed r) (a b : ℕ) (left : a < l .size) (right : b < r .size) where
+  -- A parted pair has a node expression within the bound (one-sided, without "not") that is true left and false right, and so a smallest depth of those.
+  pub parted-least : related (settled s l r c) a b ≡ false → (d : ℕ) × LeastDepth s l r c a b d
+  parted-least f = let (d, _, least) = dropped s c wl wr a b left right f in (d, least)
+
+  -- Where there is such an expression, there is one no deeper than left nodes × right nodes: the pair is none of the greatest, so that one of the first n × m
+  -- rounds drops it.
+  pub told-shallow : (q : NodeExpr) → Tells s l r c a b q → (p : NodeExpr) × Tells s l r c a b p × (depth p ≤ l .size * r .size)
+  told-shallow q t =
+      let f = test-fails _ _ (λ e. keep-iff s c wl wr a b left right .0 e q (t .within) (t .spoken) (t .left)) (t .right) in
+      let (d, i, least) = dropped s c wl wr a b left right f in
+      let (p, u, e) = least .some in
+      (p, u, omega arith)
+
+  -- So the smallest depth is at most left nodes × right nodes.
+  pub least-shallow : (d : ℕ) → LeastDepth s l r c a b d → d ≤ l .size * r .size
+  least-shallow d h =
+      let (q, t, _) = h .some in
+      let (p, u, i) = told-shallow q t in
+      omega (arith, h .least p u)
+
+-- There is one smallest depth.
+pub least-unique : {s : Sides} {l r : Graph} {c a b d e : ℕ} → LeastDepth s l r c a b d → LeastDepth s l r c a b e → d ≡ e
+least-unique h k =
+    let (q, t, _) = h .some in
+    let (p, u, _) = k .some in
+    omega (arith, h .least p u, k .least q t)
+
+-- Two-sided no expression within the bound that is less deep tells the nodes apart the other way round either: its denial is as deep.
+pub simpler-agree : {l r : Graph} {c a b d : ℕ} → LeastDepth twoSided l r c a b d → (q : NodeExpr) → Within c q → depth q < d → holds l q a ≡ holds r q b
+unfolding holds Within depth
+simpler-agree {l} {r} {c} {a} {b} {d} h q w i = go (holds l q a) (holds r q b) refl refl
+  where
+    go : (x y : Bool) → holds l q a ≡ x → holds r q b ≡ y → holds l q a ≡ holds r q b
+    go true true e f = e ∙ sym f
+    go false false e f = e ∙ sym f
+    go true false e f = absurd (omega (arith, h .least q (record { within = w; spoken = λ e. apart e refl; left = e; right = f })))
+    go false true e f = absurd (omega (arith, h .least (neg q) (record { within = w; spoken = λ e. apart e refl; left = ap not e; right = ap not f })))
