@@ -1,13 +1,15 @@
 //! A call of Compare or its one-way form, timed, and the lists that are lent to it.
 
 use crate::clock::running;
+use crate::support::hidden::{Hidden, NOTHING};
 use crate::support::library::needed;
 use crate::support::outcome::Outcome;
 use crate::support::sides::Sides;
 use std::hint::black_box;
 use std::time::Duration;
 
-pub type Compare = fn(Sides, &[u8], &[u8], usize, &mut [u16], &mut [u8], &mut [u8]) -> Outcome;
+pub type Compare =
+    fn(Sides, &[u8], &[u8], usize, Hidden, &mut [u16], &mut [u8], &mut [u8]) -> Outcome;
 
 /// What is lent: a map, room and scratch.
 #[derive(PartialEq, Hash)]
@@ -29,7 +31,7 @@ impl Lists {
     }
 }
 
-/// The answer and the time of one call. All three lists are filled with ones before, outside of the time.
+/// The answer and the time of one call, with nothing hidden. All three lists are filled with ones before, outside of the time.
 pub fn timed(
     compare: Compare,
     sides: Sides,
@@ -44,6 +46,6 @@ pub fn timed(
     let Lists { map, room, scratch } = black_box(lists);
     let (left, right) = (black_box(left), black_box(right));
     let start = running();
-    let answer = compare(sides, left, right, bound, map, room, scratch);
+    let answer = compare(sides, left, right, bound, NOTHING, map, room, scratch);
     (answer, running() - start)
 }

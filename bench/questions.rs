@@ -1,6 +1,7 @@
 //! The questions whose texts are timed, the same in every run.
 
 use crate::support::books::{chain, random_book, Book};
+use crate::support::hidden::NOTHING;
 use crate::support::library::{self, needed};
 use crate::support::random::Random;
 use crate::support::sheets::{random_sheet, step, Entry, Sheet, Step};
@@ -160,6 +161,7 @@ fn of_compare(name: &str, book: &Book, bytes: Range<usize>) -> Asked {
         &book.bytes(1),
         &book.bytes(1),
         2,
+        NOTHING,
         &mut vec![0; map],
         &mut room,
         &mut vec![0; scratch],

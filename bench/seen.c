@@ -46,25 +46,25 @@ PLAIN(cuhnavel_row_word, (const uint16_t *map, size_t map_len, size_t m, size_t 
 PLAIN(cuhnavel_pair, (const uint16_t *map, size_t map_len, size_t place, BYTES(sheet)), (map, map_len, place, sheet, sheet_len))
 PLAIN(cuhnavel_question_length, (BYTES(sheet), size_t entry), (sheet, sheet_len, entry))
 
-uint64_t __real_cuhnavel_truth(BYTES(book), BYTES(sheet), uint64_t *words, size_t words_len);
-uint64_t __wrap_cuhnavel_truth(BYTES(book), BYTES(sheet), uint64_t *words, size_t words_len) {
-    uint64_t answer = seen(__real_cuhnavel_truth(book, book_len, sheet, sheet_len, words, words_len));
+uint64_t __real_cuhnavel_truth(BYTES(book), uint64_t hidden, BYTES(sheet), uint64_t *words, size_t words_len);
+uint64_t __wrap_cuhnavel_truth(BYTES(book), uint64_t hidden, BYTES(sheet), uint64_t *words, size_t words_len) {
+    uint64_t answer = seen(__real_cuhnavel_truth(book, book_len, hidden, sheet, sheet_len, words, words_len));
     add_list(words, 8 * words_len);
     return answer;
 }
 
-uint64_t __real_cuhnavel_claim(BYTES(left), BYTES(right), BYTES(sheet), size_t entry, size_t left_cell, size_t right_cell, uint64_t *words, size_t words_len);
-uint64_t __wrap_cuhnavel_claim(BYTES(left), BYTES(right), BYTES(sheet), size_t entry, size_t left_cell, size_t right_cell, uint64_t *words, size_t words_len) {
-    uint64_t answer = seen(__real_cuhnavel_claim(left, left_len, right, right_len, sheet, sheet_len, entry, left_cell, right_cell, words, words_len));
+uint64_t __real_cuhnavel_claim(BYTES(left), BYTES(right), uint64_t left_hidden, uint64_t right_hidden, BYTES(sheet), size_t entry, size_t left_cell, size_t right_cell, uint64_t *words, size_t words_len);
+uint64_t __wrap_cuhnavel_claim(BYTES(left), BYTES(right), uint64_t left_hidden, uint64_t right_hidden, BYTES(sheet), size_t entry, size_t left_cell, size_t right_cell, uint64_t *words, size_t words_len) {
+    uint64_t answer = seen(__real_cuhnavel_claim(left, left_len, right, right_len, left_hidden, right_hidden, sheet, sheet_len, entry, left_cell, right_cell, words, words_len));
     add_list(words, 8 * words_len);
     return answer;
 }
 
 /* A form of Compare. */
 #define COMPARE(name)                                                                                                                                                                                                                          \
-    uint64_t __real_##name(BYTES(left), BYTES(right), size_t bound, uint16_t *map, size_t map_len, uint8_t *room, size_t room_len, uint8_t *scratch, size_t scratch_len);                                                                      \
-    uint64_t __wrap_##name(BYTES(left), BYTES(right), size_t bound, uint16_t *map, size_t map_len, uint8_t *room, size_t room_len, uint8_t *scratch, size_t scratch_len) {                                                                     \
-        uint64_t answer = seen(__real_##name(left, left_len, right, right_len, bound, map, map_len, room, room_len, scratch, scratch_len));                                                                                                    \
+    uint64_t __real_##name(BYTES(left), BYTES(right), size_t bound, uint64_t left_hidden, uint64_t right_hidden, uint16_t *map, size_t map_len, uint8_t *room, size_t room_len, uint8_t *scratch, size_t scratch_len);                                                                      \
+    uint64_t __wrap_##name(BYTES(left), BYTES(right), size_t bound, uint64_t left_hidden, uint64_t right_hidden, uint16_t *map, size_t map_len, uint8_t *room, size_t room_len, uint8_t *scratch, size_t scratch_len) {                                                                     \
+        uint64_t answer = seen(__real_##name(left, left_len, right, right_len, bound, left_hidden, right_hidden, map, map_len, room, room_len, scratch, scratch_len));                                                                                                    \
         add_list(map, 2 * map_len);                                                                                                                                                                                                            \
         add_list(room, room_len);                                                                                                                                                                                                              \
         add_list(scratch, scratch_len);                                                                                                                                                                                                        \

@@ -102,9 +102,11 @@ fn measure_bytes(name: &str, book: &[u8], sheet: &[u8]) {
     let (mut library_times, mut plain_times) = (Vec::new(), Vec::new());
     for _ in 0..REPETITIONS {
         library_times.push(timed(book, sheet, &mut by_library, |book, sheet, words| {
-            library::truth(book, sheet, words).number() == 0
+            library::truth(book, 0, sheet, words).number() == 0
         }));
-        plain_times.push(timed(book, sheet, &mut by_plain, plain::truth));
+        plain_times.push(timed(book, sheet, &mut by_plain, |book, sheet, words| {
+            plain::truth(book, 0, sheet, words)
+        }));
         if by_library != by_plain {
             println!("{name}: the words are not the same");
             std::process::exit(1);

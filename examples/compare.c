@@ -60,9 +60,9 @@ int main(int count, char **words)
 
     /* The map has a place for each pair, so the cells are counted first. A refused book counts 0 here; Compare says why. */
     size_t n = CUHNAVEL_FIRST(cuhnavel_check_book(left, left_len));
-    size_t m = CUHNAVEL_FIRST(cuhnavel_check_book(right, right_len));
-    uint64_t answer = (one_way ? cuhnavel_compare_one_way : cuhnavel_compare)(left, left_len, right, right_len, bound, map, n * m, room,
-                                                                              sizeof room, scratch, sizeof scratch);
+    size_t m = CUHNAVEL_FIRST(cuhnavel_check_book(right, right_len)); /* nothing is hidden: the two words are 0 */
+    uint64_t answer = (one_way ? cuhnavel_compare_one_way : cuhnavel_compare)(left, left_len, right, right_len, bound, 0, 0, map, n * m,
+                                                                              room, sizeof room, scratch, sizeof scratch);
     if (CUHNAVEL_REFUSAL(answer) != 0) {
         printf("refused: %u, part %u\n", CUHNAVEL_REFUSAL(answer), CUHNAVEL_PART(answer));
         return 1;

@@ -30,7 +30,7 @@ static void ask_compare(void)
 {
     uint16_t map[PAIRS] = {0};
     uint8_t sheet[10 + 44 * PAIRS], scratch[16 * PAIRS];
-    uint64_t answer = cuhnavel_compare(left, sizeof left, right, sizeof right, 1, map, PAIRS, sheet, sizeof sheet, scratch,
+    uint64_t answer = cuhnavel_compare(left, sizeof left, right, sizeof right, 1, 0, 0, map, PAIRS, sheet, sizeof sheet, scratch,
                                        sizeof scratch);
     ask("pair (0,0) of example A", sheet, CUHNAVEL_FIRST(answer), map[0], ROOM);
 }

@@ -5,6 +5,9 @@ use crate::seen::TENS;
 use crate::support::books::{
     book, chain, example_a_left, example_a_right, link, marked_ring, random_book, silenced, Book,
 };
+use crate::support::hidden::{
+    any_word, hides, masked, perhaps_disguised, Hidden, Masked, HIDDEN, NOTHING,
+};
 use crate::support::library::needed;
 use crate::support::partners::most_ways;
 use crate::support::random::Random;
@@ -31,6 +34,7 @@ pub fn all(tally: &mut Tally) {
     let random = &mut Random::new(5);
     examples(tally);
     silent(tally);
+    hidden(tally);
     examples_one_way(tally);
     room_of_example_a(tally);
     by_hand(tally);
@@ -56,6 +60,7 @@ fn exactly<'a>(sides: Sides, left: &'a [u8], right: &'a [u8], bound: usize) -> A
         left,
         right,
         bound,
+        hidden: NOTHING,
         map,
         room,
         scratch,
@@ -67,19 +72,23 @@ fn ask_in(
     tally: &mut Tally,
     random: &mut Random,
     sides: Sides,
-    [left, right]: [&Book; 2],
+    [one, other]: [&Masked; 2],
     bound: usize,
     shape: usize,
     claims: usize,
 ) -> Vec<u16> {
-    let (left, right) = (left.any_bytes(random), right.any_bytes(random));
+    let (left, right) = (one.book.any_bytes(random), other.book.any_bytes(random));
     let mut asked = exactly(sides, &left, &right, bound);
+    asked.hidden = Hidden {
+        left: one.hidden,
+        right: other.hidden,
+    };
     asked.room += random.pick(&[0, 0, 1, 7, 100]);
     asked.scratch += random.pick(&[0, 0, 1, 9, 100]);
     tally.compare(asked, shape, claims)
 }
 
-/// Compares two books in both forms.
+/// Compares two books in both forms, with some cells hidden or not.
 fn ask(
     tally: &mut Tally,
     random: &mut Random,
@@ -90,7 +99,24 @@ fn ask(
     claims: usize,
 ) {
     for sides in FORMS {
-        ask_in(tally, random, sides, [left, right], bound, shape, claims);
+        let [left, right] = [left, right].map(|book| masked(&mut tally.masks, book));
+        ask_in(tally, random, sides, [&left, &right], bound, shape, claims);
+    }
+}
+
+/// Compares two books in both forms, as they are or among further cells that are hidden.
+fn ask_whole(
+    tally: &mut Tally,
+    random: &mut Random,
+    left: &Book,
+    right: &Book,
+    bound: usize,
+    shape: usize,
+    claims: usize,
+) {
+    for sides in FORMS {
+        let [left, right] = [left, right].map(|book| perhaps_disguised(&mut tally.masks, book));
+        ask_in(tally, random, sides, [&left, &right], bound, shape, claims);
     }
 }
 
@@ -98,8 +124,8 @@ fn ask(
 fn ask_both_ways(
     tally: &mut Tally,
     random: &mut Random,
-    left: &Book,
-    right: &Book,
+    left: &Masked,
+    right: &Masked,
     bound: usize,
     shape: usize,
 ) {
@@ -107,7 +133,7 @@ fn ask_both_ways(
     let matched = ask(Sides::Two, [left, right]);
     let ahead = ask(Sides::One, [left, right]);
     let back = ask(Sides::One, [right, left]);
-    tally.both_ways(&matched, &ahead, &back, right.cells());
+    tally.both_ways(&matched, &ahead, &back, right.book.cells());
 }
 
 /// Document 01, P1 to P8: the pairs that it calls matched are, and those that it calls parted are not. For example A it names all.
@@ -207,6 +233,47 @@ fn silent(tally: &mut Tally) {
             expect(&forks(5, 0), &forks(7, 0), &[(0, 0), (1, 1), (2, 2)], &[]);
             expect(&forks(5, 6), &forks(7, 0), &[], &[(0, 0), (2, 2)]);
             expect(&forks(5, 5), &forks(0, 0), &[], &[(0, 0), (1, 1), (2, 2)]);
+        }
+    }
+}
+
+/// Document 02, request 2026-07: a hidden cell and all links at it are absent.
+fn hidden(tally: &mut Tally) {
+    let (a, b) = (example_a_left(), example_a_right());
+    let three = chain(vec![5, 5, 5], |_| 1);
+    let alone = book(&[5], &[]);
+    let looping = book(&[5, 5], &[link(0, 1, 1), link(1, 1, 1)]);
+    for bound in 0..=4 {
+        for sides in FORMS {
+            let mut expect = |left: &Book,
+                              right: &Book,
+                              words: [u64; 2],
+                              stay: &[_],
+                              parted: &[_],
+                              gone: &[_]| {
+                expect_hidden(tally, sides, left, right, bound, words, stay, parted, gone)
+            };
+            // Of example A without left cell 2 the two books are alike.
+            let gone = [(2, 0), (2, 1)];
+            expect(&a, &b, [4, 0], &[(0, 0), (1, 1)], &[(0, 1)], &gone);
+            // A link to a hidden cell is none, nor is one from it: what is left of a chain are cells without links.
+            let gone = [(1, 0)];
+            expect(&three, &alone, [2, 0], &[(0, 0), (2, 0)], &[], &gone);
+            expect(&alone, &three, [0, 2], &[(0, 0), (0, 2)], &[], &[(0, 1)]);
+            // A link of a hidden cell to itself is none.
+            expect(&looping, &alone, [2, 0], &[(0, 0)], &[], &gone);
+            // Nothing is left of one book, or of both.
+            expect(&alone, &three, [1, 0], &[], &[], &[(0, 0), (0, 1), (0, 2)]);
+            expect(&alone, &three, [1, 7], &[], &[], &[(0, 0), (0, 1), (0, 2)]);
+            // Cells that nothing is hidden near of are as they were.
+            expect(
+                &three,
+                &three,
+                [1, 1],
+                &[(1, 1), (2, 2)],
+                &[(1, 2)],
+                &[(0, 0), (0, 1), (2, 0)],
+            );
         }
     }
 }
@@ -312,7 +379,7 @@ fn rings(tally: &mut Tally) {
     }
 }
 
-/// In every mix of versions these pairs stay, and these are parted.
+/// In every mix of versions these pairs stay, and these are parted. Nothing is hidden.
 fn expect(
     tally: &mut Tally,
     sides: Sides,
@@ -322,12 +389,39 @@ fn expect(
     stay: &[(usize, usize)],
     parted: &[(usize, usize)],
 ) {
+    expect_hidden(tally, sides, left, right, bound, [0, 0], stay, parted, &[]);
+}
+
+/// In every mix of versions these pairs stay, these are parted, and of these a cell is hidden by the words.
+fn expect_hidden(
+    tally: &mut Tally,
+    sides: Sides,
+    left: &Book,
+    right: &Book,
+    bound: usize,
+    [of_left, of_right]: [u64; 2],
+    stay: &[(usize, usize)],
+    parted: &[(usize, usize)],
+    gone: &[(usize, usize)],
+) {
     let m = right.cells();
+    let hidden = Hidden {
+        left: of_left,
+        right: of_right,
+    };
     for [one, other] in MIXES {
         let (one, other) = (left.bytes(one), right.bytes(other));
-        let map = tally.compare(exactly(sides, &one, &other, bound), OTHERS, usize::MAX);
-        assert!(stay.iter().all(|(i, j)| map[i * m + j] == 0));
-        assert!(parted.iter().all(|(i, j)| map[i * m + j] != 0));
+        let asked = Asked {
+            hidden,
+            ..exactly(sides, &one, &other, bound)
+        };
+        let map = tally.compare(asked, OTHERS, usize::MAX);
+        let holds = |pairs: &[(usize, usize)], number: fn(u16) -> bool| {
+            pairs.iter().all(|(i, j)| number(map[i * m + j]))
+        };
+        assert!(holds(stay, |number| number == 0));
+        assert!(holds(parted, |number| number != 0 && number != HIDDEN));
+        assert!(holds(gone, |number| number == HIDDEN));
     }
 }
 
@@ -337,6 +431,12 @@ fn by_shape(tally: &mut Tally, random: &mut Random) {
         for bound in 0..=4 {
             for round in 0..DRAWN {
                 let (left, right) = draw(random, shape, bound);
+                // Mostly what is shown is the books of this shape.
+                let mask = match round % 4 {
+                    0 => masked,
+                    _ => perhaps_disguised,
+                };
+                let [left, right] = [left, right].map(|book| mask(&mut tally.masks, &book));
                 let books = [&left, &right];
                 match round % 5 {
                     0 => ask_both_ways(tally, random, &left, &right, bound, place),
@@ -364,28 +464,42 @@ fn by_shape(tally: &mut Tally, random: &mut Random) {
     }
 }
 
-/// A book and itself.
+/// A book and itself, of which the same cells are hidden or others.
 fn same_book(tally: &mut Tally, random: &mut Random) {
     for bound in 0..=4 {
         for round in 0..DRAWN / 5 {
             let shape = &SHAPES[round % SHAPES.len()];
             let (book, _) = draw(random, shape, bound);
-            ask(tally, random, &book, &book, bound, OTHERS, usize::MAX);
+            let one = masked(&mut tally.masks, &book);
+            let mut other = one.clone();
+            if round % 2 == 0 {
+                other.hidden = any_word(&mut tally.masks, other.book.cells());
+            }
+            for sides in FORMS {
+                let books = [&one, &other];
+                ask_in(tally, random, sides, books, bound, OTHERS, usize::MAX);
+            }
         }
     }
 }
 
-/// A book and one that offers more: each cell is covered by itself.
+/// A book and one that offers more: each cell that is not hidden is covered by itself.
 fn offering_more(tally: &mut Tally, random: &mut Random) {
     for bound in 0..=4 {
         for round in 0..DRAWN / 5 {
             let shape = &SHAPES[round % SHAPES.len()];
             let (book, _) = draw(random, shape, bound);
             let (cells, links) = (random.below(3), random.below(4));
-            let more = grown(random, &book, cells, links);
-            let books = [&book, &more];
+            let one = masked(&mut tally.masks, &book);
+            let other = Masked {
+                book: grown(random, &one.book, cells, links),
+                hidden: one.hidden,
+            };
+            let books = [&one, &other];
             let map = ask_in(tally, random, Sides::One, books, bound, OTHERS, usize::MAX);
-            assert!((0..book.cells()).all(|x| map[x * more.cells() + x] == 0));
+            let m = other.book.cells();
+            let mut shown = (0..one.book.cells()).filter(|&x| !hides(one.hidden, x));
+            assert!(shown.all(|x| map[x * m + x] == 0));
         }
     }
 }
@@ -430,8 +544,8 @@ fn draw_middling(random: &mut Random, round: usize, bound: usize) -> (Book, Book
             let book = random_book(random, cells, links, labels, kinds);
             silenced(random, book)
         };
-        let (left, right) = match round % 4 {
-            0 => {
+        let (left, right) = match round % 5 {
+            0 | 4 => {
                 let book = any(random, cells);
                 let other = renumbered(random, &book);
                 (book, other)
@@ -470,15 +584,19 @@ fn crowded(tally: &mut Tally, random: &mut Random) {
         book.links.sort();
         book.links.dedup();
         let other = renumbered(random, &book);
-        ask(tally, random, &book, &other, 4, TENS, SOME_CLAIMS);
+        ask_whole(tally, random, &book, &other, 4, TENS, SOME_CLAIMS);
         let other = damaged(random, &other);
-        ask(tally, random, &book, &other, 4, TENS, SOME_CLAIMS);
+        ask_whole(tally, random, &book, &other, 4, TENS, SOME_CLAIMS);
     }
 }
 
-/// Books of 64 cells on both sides, and the most links.
+/// Books of 64 cells on both sides, and the most links. Of each some are hidden, in a second call.
 fn large(tally: &mut Tally, random: &mut Random) {
     let mut ask = |random: &mut Random, left: &Book, right: &Book, bound: usize| {
+        for sides in FORMS {
+            let books = [&Masked::open(left), &Masked::open(right)];
+            ask_in(tally, random, sides, books, bound, OTHERS, SOME_CLAIMS);
+        }
         ask(tally, random, left, right, bound, OTHERS, SOME_CLAIMS)
     };
     // No links: all are matched.
@@ -542,15 +660,10 @@ fn ask_dense(tally: &mut Tally, random: &mut Random, cells: usize, labels: usize
     };
     let [book] = any_labels(random, [book]);
     let mut ask = |random: &mut Random, sides: Sides, other: &Book| {
-        ask_in(
-            tally,
-            random,
-            sides,
-            [&book, other],
-            bound,
-            TENS,
-            SOME_CLAIMS,
-        );
+        let masks = &mut tally.masks;
+        let books = [&book, other].map(|book| perhaps_disguised(masks, book));
+        let books = [&books[0], &books[1]];
+        ask_in(tally, random, sides, books, bound, TENS, SOME_CLAIMS);
     };
     let other = renumbered(random, &book);
     ask(random, Sides::Two, &other);
@@ -582,5 +695,5 @@ fn many_values(tally: &mut Tally, random: &mut Random) {
     }
     left.links.sort();
     right.links.sort();
-    ask(tally, random, &left, &right, 2, OTHERS, SOME_CLAIMS);
+    ask_whole(tally, random, &left, &right, 2, OTHERS, SOME_CLAIMS);
 }

@@ -44,7 +44,7 @@ impl Kept {
     ) {
         let sides = asked.sides;
         self.times[0] += keep(call, sides, map, of_left, of_right);
-        if left.cells() + right.cells() > MOST_CELLS {
+        if left.cells() == 0 || left.cells() + right.cells() > MOST_CELLS {
             return;
         }
         let plan = Plan {

@@ -1,7 +1,8 @@
-//! Calls that are refused: each refusal of each book, with and without each of 20 to 23, and damaged books.
+//! Calls that are refused: each refusal of each book, with and without each of 20 to 23 and 31 of either book, and damaged books.
 
 use crate::expected::Asked;
 use crate::support::counts::OF_BOOK;
+use crate::support::hidden::{any_word, word_beyond, Hidden, NOTHING};
 use crate::support::library::needed;
 use crate::support::random::Random;
 use crate::support::refusals::{book_refused, change_byte};
@@ -49,16 +50,34 @@ fn beyond(random: &mut Random) -> usize {
     ])
 }
 
-/// Every refusal of the left book with every refusal of the right one, with and without each of 20, 21, 22 and 23.
+/// Words for the books that the headers speak of, as far as there are headers: with bits beyond the cells or without.
+fn words(random: &mut Random, books: [&[u8]; 2], beyond: [bool; 2]) -> Hidden {
+    let mut word = |side: usize| {
+        let cells = (*books[side].get(5).unwrap_or(&1)).clamp(1, 63) as usize;
+        match beyond[side] {
+            true => word_beyond(random, cells),
+            false => any_word(random, cells),
+        }
+    };
+    Hidden {
+        left: word(0),
+        right: word(1),
+    }
+}
+
+/// Every refusal of the left book with every refusal of the right one, with and without each of 20, 21, 22 and 23 and of 31 of the left and
+/// the right.
 fn every_order(tally: &mut Tally, random: &mut Random) {
     for of_left in [&[0], &OF_BOOK[..]].concat() {
         for of_right in [&[0], &OF_BOOK[..]].concat() {
             let accepted = of_left == 0 && of_right == 0;
-            for round in 0..if accepted { 16 * 32 } else { 16 * 4 } {
+            for round in 0..if accepted { 64 * 16 } else { 64 } {
                 let left = book_refused(random, of_left);
                 let right = book_refused(random, of_right);
                 let [far, other_map, little_room, little_scratch] =
                     [1, 2, 4, 8].map(|bit| round & bit != 0);
+                let beyond_cells = [16, 32].map(|bit| round & bit != 0);
+                let hidden = words(random, [&left, &right], beyond_cells);
                 let (map, room, scratch) = needed_by(&left, &right);
                 let below = |random: &mut Random, count: usize| match random.below(3) {
                     0 => count - 1,
@@ -70,6 +89,7 @@ fn every_order(tally: &mut Tally, random: &mut Random) {
                     left: &left,
                     right: &right,
                     bound: if far { beyond(random) } else { random.below(3) },
+                    hidden,
                     map: match other_map {
                         false => map,
                         true if random.one_in(2) => map + random.pick(&[1, 2, map, 256]),
@@ -101,6 +121,7 @@ fn lengths(tally: &mut Tally, random: &mut Random) {
             left: &left,
             right: &right,
             bound: round % 3,
+            hidden: NOTHING,
             map,
             room,
             scratch,
@@ -121,6 +142,17 @@ fn lengths(tally: &mut Tally, random: &mut Random) {
         for bound in [5, 256, usize::MAX] {
             compare(Asked { bound, ..asked });
         }
+        // The last bit that may be set and the first that may not be, of either word: each is judged by its own book.
+        let (n, m) = (left[5] as usize, right[5] as usize);
+        for bit in [n - 1, n, m - 1, m, 63] {
+            for [one, other] in [[1, 0], [0, 1], [1, 1]] {
+                let hidden = Hidden {
+                    left: one << bit,
+                    right: other << bit,
+                };
+                compare(Asked { hidden, ..asked });
+            }
+        }
     }
 }
 
@@ -137,11 +169,13 @@ fn damaged(tally: &mut Tally, random: &mut Random) {
             change_byte(random, bytes);
         }
         let (map, room, scratch) = needed_by(&left, &right);
+        let hidden = words(random, [&left, &right], [false; 2]);
         let asked = Asked {
             sides: Sides::Two,
             left: &left,
             right: &right,
             bound: random.below(3),
+            hidden,
             map,
             room,
             scratch,

@@ -4,6 +4,7 @@
 use crate::expected::Asked;
 use crate::plain_compare::{self, BY_CELLS, CLASHED, FULL, IDLE, QUIET, UNKNOWN};
 use crate::support::call::Call;
+use crate::support::hidden::shown_map;
 use crate::support::loops::{Dropped, Reason};
 use crate::support::outcome::Outcome;
 use crate::support::sheets::Sheet;
@@ -19,6 +20,9 @@ const REACH: usize = 20_000;
 /// What Compare left.
 pub struct Written<'a> {
     pub answer: Outcome,
+    /// Of all pairs.
+    pub whole: &'a [u16],
+    /// Of the pairs that are shown.
     pub map: &'a [u16],
     pub room: &'a [u8],
 }
@@ -103,16 +107,21 @@ impl Searches {
             asked.left,
             asked.right,
             asked.bound,
+            asked.hidden,
             &mut map,
             &mut room,
             &mut scratch,
         );
         let who = format!("the plain version with tables of {N} places");
         let sheet = sheet_of(answer, &room);
-        same_reasons(call, &who, &map, &sheet, dropped);
+        let [left, right] = asked.shown();
+        match shown_map(&left, &right, &map) {
+            Some(map) => same_reasons(call, &who, &map, &sheet, dropped),
+            None => call.fail(&format!("{who} does not tell the hidden pairs from others")),
+        }
         let length = written.answer.first as usize;
         let other = answer != written.answer
-            || map != written.map
+            || map != written.whole
             || room[..length] != written.room[..length];
         if other {
             call.fail(&format!("{who} does not write what the library does"));

@@ -2,7 +2,7 @@
 
 use crate::kept::Kept;
 use crate::searches::Searches;
-use crate::support::counts::{Counts, Silence, Versions, OF_BOOK};
+use crate::support::counts::{Counts, Hiding, Silence, Versions, OF_BOOK_AND_WORD};
 use crate::support::outcome::{CALL, LEFT_BOOK, RIGHT_BOOK};
 use crate::support::shapes::{OTHERS, SHAPES};
 use crate::support::sides::Sides;
@@ -27,7 +27,9 @@ pub struct Seen {
     /// Of the left book and the right one.
     pub versions: Versions,
     pub silence: Silence,
-    pub claims: usize,
+    pub hiding: Hiding,
+    /// Of parted pairs, and of pairs with a hidden cell.
+    pub claims: [usize; 2],
     /// Of each shape, by its place in `SHAPES`, of all others and of `TENS` at the end; by bound.
     pub pairs: [[Pairs; 5]; TENS + 1],
     /// The questions named in a map, by what they are, and by their depth.
@@ -47,7 +49,8 @@ impl Seen {
             answers: Counts::new(sides.operation()),
             versions: Versions::default(),
             silence: Silence::default(),
-            claims: 0,
+            hiding: Hiding::default(),
+            claims: [0; 2],
             pairs: Default::default(),
             questions: BTreeMap::new(),
             depths: BTreeMap::new(),
@@ -63,13 +66,14 @@ impl Seen {
         let cases = self.answers.report(
             &["compared"],
             &[
-                (LEFT_BOOK, &OF_BOOK),
-                (RIGHT_BOOK, &OF_BOOK),
+                (LEFT_BOOK, &OF_BOOK_AND_WORD),
+                (RIGHT_BOOK, &OF_BOOK_AND_WORD),
                 (CALL, &[20, 21, 22, 23]),
             ],
         );
         self.versions.report(self.sides.operation());
         self.silence.report(self.sides.operation());
+        self.hiding.report(self.sides.operation());
         self.report_pairs();
         let parted: usize = self.depths.values().sum();
         println!(
@@ -79,7 +83,8 @@ impl Seen {
         let shallow: Vec<_> = self.depths.range(..9).collect();
         let deepest = self.depths.keys().max().unwrap_or(&0);
         println!("  by depth, which is that of the round, {shallow:?}, the deepest {deepest}");
-        println!("  claimed: {}", self.claims);
+        let [parted, hidden] = self.claims;
+        println!("  claimed: {parted} parted pairs, and {hidden} of which a cell is hidden");
         self.kept.report(self.sides.stays());
         println!(
             "the naive comparisons were in reach in {} cases, and in {} all relations",
@@ -125,7 +130,7 @@ impl Seen {
                 .iter()
                 .map(|of_shape| of_shape[bound].by_bound)
                 .sum();
-            if by_bound < 100 {
+            if by_bound < 60 {
                 println!("bound {bound}: too few are parted by it");
                 std::process::exit(1);
             }

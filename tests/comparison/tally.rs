@@ -7,10 +7,11 @@ use crate::support::books::Book;
 use crate::support::call::Call;
 use crate::support::checks::check_sheet;
 use crate::support::described::compared;
+use crate::support::hidden::{shown_map, Shown, HIDDEN};
 use crate::support::lent::Lent;
 use crate::support::library;
 use crate::support::loops::{partings, Dropped};
-use crate::support::meaning::{sheet_cells, word, Cells};
+use crate::support::meaning::{sheet_cells, Cells};
 use crate::support::measures::{depths, keeping};
 use crate::support::outcome::{accepted, CALL};
 use crate::support::partners::{most_ways, rounds, union_of_all};
@@ -24,6 +25,8 @@ const FEW_PAIRS: usize = 6;
 
 pub struct Tally {
     random: Random,
+    /// What is hidden is drawn by these.
+    pub masks: Random,
     turn: usize,
     /// Of each of the `FORMS`.
     seen: [Seen; 2],
@@ -35,6 +38,7 @@ impl Tally {
     pub fn new() -> Tally {
         Tally {
             random: Random::new(7),
+            masks: Random::new(20),
             turn: 0,
             seen: FORMS.map(Seen::new),
             both_ways: [0; 2],
@@ -65,6 +69,7 @@ impl Tally {
             left,
             right,
             asked.bound,
+            asked.hidden,
             lent_map.lend(),
             lent_room.lend(),
             lent_scratch.lend(),
@@ -73,8 +78,8 @@ impl Tally {
         let call = Call {
             name: asked.sides.operation(),
             numbers: format!(
-                "case {}, bound {}, map {}, room {}, scratch {}",
-                self.turn, asked.bound, asked.map, asked.room, asked.scratch
+                "case {}, bound {}, {:x?}, map {}, room {}, scratch {}",
+                self.turn, asked.bound, asked.hidden, asked.map, asked.room, asked.scratch
             ),
             inputs: &[("left book", asked.left), ("right book", asked.right)],
         };
@@ -97,14 +102,21 @@ impl Tally {
                 if lent_scratch.values().iter().any(|&byte| byte != 0) {
                     call.fail("the scratch does not end as zeros");
                 }
+                let shown = asked.shown();
+                let Some(map) = shown_map(&shown[0], &shown[1], lent_map.values()) else {
+                    call.fail(
+                        "the map does not hold 65,535 where a cell is hidden, and nowhere else",
+                    );
+                };
                 let written = Written {
                     answer,
-                    map: lent_map.values(),
+                    whole: lent_map.values(),
+                    map: &map,
                     room: lent_room.values(),
                 };
                 let sheet = written_sheet(&call, &written, &room, asked);
                 self.of(asked).versions.count(&[asked.left, asked.right]);
-                self.pairs(&call, asked, &written, &sheet, shape);
+                self.pairs(&call, asked, &shown, &written, &sheet, shape);
                 self.claims(&call, asked, &written, claims);
             }
         }
@@ -128,29 +140,40 @@ impl Tally {
     }
 
     /// "Map place i × m + j is 0 if left i and right j are matched, else the entry of a question that parts them: it keeps to bound
-    /// c, is true at left i, false at right j, and is no deeper than n × m." One-way it is 0 if the pair is covered.
-    fn pairs(&mut self, call: &Call, asked: Asked, written: &Written, sheet: &Sheet, shape: usize) {
-        let (one, other) = (Book::of_bytes(asked.left), Book::of_bytes(asked.right));
+    /// c, is true at left i, false at right j, and is no deeper than n × m." One-way it is 0 if the pair is covered. These are
+    /// all of the pairs that are shown, in what is shown of the books.
+    fn pairs(
+        &mut self,
+        call: &Call,
+        asked: Asked,
+        shown: &[Shown; 2],
+        written: &Written,
+        sheet: &Sheet,
+        shape: usize,
+    ) {
+        let [one, other] = shown.each_ref().map(|shown| &shown.book);
         let (n, m) = (one.cells(), other.cells());
-        let dropped = partings(&one, &other, asked.bound, asked.sides);
+        let dropped = partings(one, other, asked.bound, asked.sides);
         let dropped_before = match asked.bound {
             0 => dropped.clone(),
-            bound => partings(&one, &other, bound - 1, asked.sides),
+            bound => partings(one, other, bound - 1, asked.sides),
         };
-        let ways = most_ways(&one, asked.bound).max(most_ways(&other, asked.bound));
+        let ways = most_ways(one, asked.bound).max(most_ways(other, asked.bound));
         let seen = self.of(asked);
-        seen.silence.count(&[&one, &other]);
+        let whole = [asked.left, asked.right].map(Book::of_bytes);
+        seen.silence.count(&[&whole[0], &whole[1]]);
+        seen.hiding.count_two(&whole[0], &whole[1], asked.hidden);
         if n * m * ways * ways <= REACH {
-            naive(call, asked, (&one, &other), written, &dropped);
+            naive(call, asked, shown, written, &dropped);
             seen.naive += 1;
             seen.unions += (n * m <= FEW_PAIRS) as usize;
         }
         seen.searches.check(call, asked, written, &dropped, ways);
-        let questions = Questions::of(&one, &other, sheet);
-        truths(call, asked, written, &questions);
+        let questions = Questions::of(one, other, sheet);
+        truths(call, asked, shown, written, &questions);
         let cells = (&questions.of_left[..], &questions.of_right[..]);
         seen.kept
-            .check(call, asked, (&one, &other), written.map, cells);
+            .check(call, asked, (one, other), written.map, cells);
         let pairs = &mut seen.pairs[shape][asked.bound];
         pairs.cases += 1;
         for (place, (&number, dropped)) in written.map.iter().zip(&dropped).enumerate() {
@@ -175,27 +198,33 @@ impl Tally {
         }
     }
 
-    /// Claim says yes to every parted pair.
+    /// Claim says yes to every parted pair, and no to every pair of which a cell is hidden, whatever is asked.
     fn claims(&mut self, call: &Call, asked: Asked, written: &Written, claims: usize) {
         let sheet = &written.room[..written.answer.first as usize];
         let m = asked.right[5] as usize;
         let mut words = vec![0; u16::from_be_bytes([sheet[6], sheet[7]]) as usize];
-        let parted = (0..written.map.len()).filter(|&place| written.map[place] != 0);
+        let parted = (0..written.whole.len()).filter(|&place| written.whole[place] != 0);
         let parted: Vec<usize> = parted.collect();
         for &place in parted.iter().step_by(parted.len() / claims + 1) {
+            let number = written.whole[place];
+            let entry = match number {
+                HIDDEN => place % words.len(),
+                _ => number as usize,
+            };
             let answer = library::claim(
                 asked.left,
                 asked.right,
+                asked.hidden,
                 sheet,
-                written.map[place] as usize,
+                entry,
                 place / m,
                 place % m,
                 &mut words,
             );
-            if answer != accepted(1, 0) {
+            if answer != accepted((number != HIDDEN) as u32, 0) {
                 call.fail(&format!("claim of place {place} gives {answer:?}"));
             }
-            self.of(asked).claims += 1;
+            self.of(asked).claims[(number == HIDDEN) as usize] += 1;
         }
     }
 }
@@ -230,11 +259,12 @@ impl Tally {
 fn naive(
     call: &Call,
     asked: Asked,
-    (left, right): (&Book, &Book),
+    shown: &[Shown; 2],
     written: &Written,
     dropped: &[Option<Dropped>],
 ) {
     let Asked { bound, sides, .. } = asked;
+    let [left, right] = shown.each_ref().map(|shown| &shown.book);
     let by_loops: Vec<_> = dropped.iter().map(|d| d.map(|d| d.round)).collect();
     if rounds(left, right, bound, sides) != by_loops {
         call.fail("the naive comparison and all pairs of paths give different rounds");
@@ -248,8 +278,14 @@ fn naive(
         }
     }
     let by_first_reasons = compared(left, right, bound, sides, asked.version());
-    let Written { answer, map, room } = *written;
-    if let Some(what) = by_first_reasons.difference(answer, map, room) {
+    let by_first_reasons = by_first_reasons.of_whole(&shown[0], &shown[1]);
+    let Written {
+        answer,
+        whole,
+        room,
+        ..
+    } = *written;
+    if let Some(what) = by_first_reasons.difference(answer, whole, room) {
         call.fail(&what);
     }
 }
@@ -297,15 +333,20 @@ impl Questions {
 }
 
 /// Truth of each book and the sheet is what the naive evaluator gives.
-fn truths(call: &Call, asked: Asked, written: &Written, questions: &Questions) {
+fn truths(call: &Call, asked: Asked, shown: &[Shown; 2], written: &Written, questions: &Questions) {
     let sheet = &written.room[..written.answer.first as usize];
     let Questions {
         of_left, of_right, ..
     } = questions;
-    for (book, cells) in [(asked.left, of_left), (asked.right, of_right)] {
+    let [left, right] = shown;
+    for (book, hidden, shown, cells) in [
+        (asked.left, asked.hidden.left, left, of_left),
+        (asked.right, asked.hidden.right, right, of_right),
+    ] {
         let mut words = vec![u64::MAX; cells.len()];
-        let answer = library::truth(book, sheet, &mut words);
-        if answer != accepted(0, 0) || !words.iter().copied().eq(cells.iter().map(word)) {
+        let answer = library::truth(book, hidden, sheet, &mut words);
+        let expected = cells.iter().map(|cells| shown.word(cells));
+        if answer != accepted(0, 0) || !words.iter().copied().eq(expected) {
             call.fail(&format!(
                 "truth of the sheet gives {answer:?}, or other words"
             ));
@@ -332,7 +373,7 @@ fn written_sheet(call: &Call, written: &Written, before: &[u8], asked: Asked) ->
     if *after != before[length..] {
         call.fail("bytes after the sheet were changed");
     }
-    let zeros = written.map.iter().filter(|&&place| place == 0).count();
+    let zeros = written.whole.iter().filter(|&&place| place == 0).count();
     if written.answer.second as usize != zeros {
         call.fail(&format!(
             "{zeros} places hold 0, not {}",

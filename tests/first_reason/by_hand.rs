@@ -3,6 +3,7 @@
 use crate::support::books::{
     book, chain, example_a_left, example_a_right, link, marked_ring, Book,
 };
+use crate::support::hidden::{Masked, HIDDEN};
 use crate::support::library;
 use crate::support::measures::depths;
 use crate::support::sheets::Entry::{And, Differ, Not, Same, True, Way};
@@ -22,6 +23,7 @@ pub fn all(tally: &mut Tally) {
     paths(tally);
     silent(tally);
     counterparts_silent(tally);
+    hidden(tally);
 }
 
 /// Steps along these labels, with always true as tests.
@@ -147,7 +149,8 @@ fn rings_one_way(tally: &mut Tally) {
     for (n, m) in [(1, 2), (2, 3), (3, 4), (4, 5), (5, 3)] {
         let (left, right) = (marked_ring(n, |x| x == 0), marked_ring(m, |x| x != 0));
         for bound in 0..=1 {
-            let (map, sheet) = tally.every_mix(One, &left, &right, bound);
+            let (map, sheet) =
+                tally.every_mix(One, &Masked::open(&left), &Masked::open(&right), bound);
             let depths = depths(&sheet);
             let mut named: Vec<usize> = map.iter().map(|&k| depths[k as usize]).collect();
             named.sort();
@@ -166,7 +169,7 @@ fn whole(
     map: &[u16],
     entries: &[Entry],
 ) -> Sheet {
-    let (given, sheet) = tally.every_mix(sides, left, right, bound);
+    let (given, sheet) = tally.every_mix(sides, &Masked::open(left), &Masked::open(right), bound);
     assert_eq!(given, map);
     assert_eq!(sheet.entries, [&[True][..], entries].concat());
     sheet
@@ -268,6 +271,7 @@ fn text(sheet: &Sheet, entry: usize) -> String {
 /// Compares the books in every mix of versions: the first pair is parted in the first round, by this entry at the left cell or else at
 /// the right one. One-way it is parted, by the same entry, where it is at the left.
 fn first(tally: &mut Tally, left: &Book, right: &Book, bound: usize, at_left: bool, entry: Entry) {
+    let (left, right) = (&Masked::open(left), &Masked::open(right));
     let (map, sheet) = tally.every_mix(Two, left, right, bound);
     assert_eq!(map[0], if at_left { 1 } else { 2 });
     assert_eq!(sheet.entries[1], entry);
@@ -275,4 +279,35 @@ fn first(tally: &mut Tally, left: &Book, right: &Book, bound: usize, at_left: bo
     let (map, sheet) = tally.every_mix(One, left, right, bound);
     assert_eq!(map[0] == 1, at_left);
     assert!(!at_left || sheet.entries[1] == entry);
+}
+
+/// Of example A what is written where left cell 1 or 2 is hidden, or right cell 1.
+fn hidden(tally: &mut Tally) {
+    let mask = |book: Book, hidden| Masked { book, hidden };
+    let left = |hidden| mask(example_a_left(), hidden);
+    let right = |hidden| mask(example_a_right(), hidden);
+    let pair = [way(1), Not(1)];
+    for bound in 1..=4 {
+        // Without left cell 2, which differs, the first cells are partners.
+        let (map, sheet) = tally.every_mix(Two, &left(4), &right(0), bound);
+        assert_eq!(map, [0, 1, 4, 0, HIDDEN, HIDDEN]);
+        assert_eq!(
+            sheet.entries,
+            [&[True][..], &pair, &[way(1), Not(3)]].concat()
+        );
+        // Without left cell 1 the only link leads to another recording, and the right one's to the same.
+        let (map, sheet) = tally.every_mix(One, &left(2), &right(0), bound);
+        assert_eq!(map, [1, 2, HIDDEN, HIDDEN, 0, 0]);
+        let entries = [differ(&[], &[1]), way(1), And(1, 2)];
+        assert_eq!(sheet.entries, [&[True][..], &entries].concat());
+        // Without right cell 1 there is no link on the right.
+        let (map, sheet) = tally.every_mix(Two, &left(0), &right(2), bound);
+        assert_eq!(map, [1, HIDDEN, 0, HIDDEN, 0, HIDDEN]);
+        assert_eq!(sheet.entries, [&[True][..], &pair].concat());
+        // Nothing is left on the right.
+        for sides in FORMS {
+            let (map, sheet) = tally.every_mix(sides, &left(1), &right(3), bound);
+            assert_eq!((map, sheet.entries), (vec![HIDDEN; 6], vec![True]));
+        }
+    }
 }

@@ -1,10 +1,10 @@
 //! Compares what the library leaves with what the plain loops do, call by call, and counts what parts the pairs.
 
 use crate::shorter::Shorter;
-use crate::support::books::Book;
 use crate::support::call::Call;
-use crate::support::counts::{Silence, Versions};
+use crate::support::counts::{Hiding, Silence, Versions};
 use crate::support::described::compared;
+use crate::support::hidden::{Hidden, Masked};
 use crate::support::lent::Lent;
 use crate::support::library::{self, needed};
 use crate::support::loops::Reason;
@@ -33,6 +33,7 @@ pub struct Tally {
     /// Of the left book and the right one.
     versions: Versions,
     silence: Silence,
+    hiding: Hiding,
     /// Of each of the `FORMS`, by bound.
     by_bound: [[Named; 5]; 2],
     shorter: Shorter,
@@ -45,6 +46,7 @@ impl Tally {
             turn: 0,
             versions: Versions::default(),
             silence: Silence::default(),
+            hiding: Hiding::default(),
             by_bound: Default::default(),
             shorter: Shorter::default(),
         }
@@ -54,12 +56,12 @@ impl Tally {
     pub fn compare(
         &mut self,
         sides: Sides,
-        left: &Book,
-        right: &Book,
+        left: &Masked,
+        right: &Masked,
         bound: usize,
     ) -> (Vec<u16>, Sheet) {
-        let one = any_version(&mut self.random, left.labels());
-        let other = any_version(&mut self.random, right.labels());
+        let one = any_version(&mut self.random, left.book.labels());
+        let other = any_version(&mut self.random, right.book.labels());
         self.compare_in([one, other], sides, left, right, bound)
     }
 
@@ -68,13 +70,13 @@ impl Tally {
     pub fn every_mix(
         &mut self,
         sides: Sides,
-        left: &Book,
-        right: &Book,
+        left: &Masked,
+        right: &Masked,
         bound: usize,
     ) -> (Vec<u16>, Sheet) {
         let mut written = Vec::new();
-        for &one in versions_of(left.labels()) {
-            for &other in versions_of(right.labels()) {
+        for &one in versions_of(left.book.labels()) {
+            for &other in versions_of(right.book.labels()) {
                 written.push(self.compare_in([one, other], sides, left, right, bound));
             }
         }
@@ -88,13 +90,17 @@ impl Tally {
         &mut self,
         [one, other]: [u8; 2],
         sides: Sides,
-        left: &Book,
-        right: &Book,
+        left: &Masked,
+        right: &Masked,
         bound: usize,
     ) -> (Vec<u16>, Sheet) {
         let version = written_version(one, other);
-        let (one, other) = (left.bytes(one), right.bytes(other));
-        let (map, room, scratch) = needed(left.cells() * right.cells(), version);
+        let (one, other) = (left.book.bytes(one), right.book.bytes(other));
+        let (map, room, scratch) = needed(left.book.cells() * right.book.cells(), version);
+        let hidden = Hidden {
+            left: left.hidden,
+            right: right.hidden,
+        };
         let more = self.random.pick(&[0, 1, 7, 100]);
         let around = self.random.byte();
         let map: Vec<u16> = (0..map).map(|_| self.random.next() as u16).collect();
@@ -107,6 +113,7 @@ impl Tally {
             &one,
             &other,
             bound,
+            hidden,
             lent_map.lend(),
             lent_room.lend(),
             &mut scratch,
@@ -114,10 +121,13 @@ impl Tally {
 
         let call = Call {
             name: sides.operation(),
-            numbers: format!("case {}, bound {bound}", self.turn),
+            numbers: format!("case {}, bound {bound}, {hidden:x?}", self.turn),
             inputs: &[("left book", &one), ("right book", &other)],
         };
-        let expected = compared(left, right, bound, sides, version);
+        let (of_left, of_right) = (left.shown(), right.shown());
+        let among_shown = compared(&of_left.book, &of_right.book, bound, sides, version);
+        let map = among_shown.map.clone();
+        let expected = among_shown.of_whole(&of_left, &of_right);
         if let Some(what) = expected.difference(answer, lent_map.values(), lent_room.values()) {
             call.fail(&what);
         }
@@ -136,10 +146,11 @@ impl Tally {
             call.fail("the sheet has a \"not\"");
         }
         self.versions.count(&[&one, &other]);
-        self.silence.count(&[left, right]);
-        self.count(sides, &expected.map, &sheet);
+        self.silence.count(&[&left.book, &right.book]);
+        self.hiding.count_two(&left.book, &right.book, hidden);
+        self.count(sides, &map, &sheet);
         self.shorter
-            .check(&call, sides, left, right, &expected.map, &sheet);
+            .check(&call, sides, &of_left.book, &of_right.book, &map, &sheet);
         self.turn += 1;
         (expected.map, sheet)
     }
@@ -169,6 +180,7 @@ impl Tally {
         self.shorter.report();
         self.versions.report("compare");
         self.silence.report("compare");
+        self.hiding.report("compare");
         self.turn
     }
 

@@ -84,6 +84,13 @@ uint64_t refusal_of(uint64_t answer, unsigned part)
     return CUHNAVEL_REFUSAL(answer) == 0 ? 0 : CUHNAVEL_REFUSAL(answer) | part << 8;
 }
 
+uint64_t hidden_refused(uint64_t of_book, uint64_t hidden, unsigned part)
+{
+    size_t cells = CUHNAVEL_FIRST(of_book);
+    bool beyond = CUHNAVEL_REFUSAL(of_book) == 0 && cells < 64 && hidden >> cells != 0;
+    return beyond ? 31 | part << 8 : 0;
+}
+
 uint64_t call_refused(unsigned refusal, bool refused)
 {
     return refused ? refusal | CUHNAVEL_CALL << 8 : 0;

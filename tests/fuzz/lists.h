@@ -36,6 +36,9 @@ size_t first_or_few(uint64_t answer);
 /* The refusal in an answer as one that speaks of this part; 0 if the answer accepts. */
 uint64_t refusal_of(uint64_t answer, unsigned part);
 
+/* Refusal 31 of this part, if its book, which had this answer from its check, is accepted and the word has a bit beyond its cells; else 0. */
+uint64_t hidden_refused(uint64_t of_book, uint64_t hidden, unsigned part);
+
 /* The answer that refuses the call by this number, if it does; else 0. */
 uint64_t call_refused(unsigned refusal, bool refused);
 

@@ -13,12 +13,12 @@ void call_checks(void)
     any_sheet_lent();
 }
 
-/* Lends a map of so many places, of which many hold 0, and most others a number below `end` or just beyond. */
+/* Lends a map of so many places, of which many hold 0, some have a hidden cell, and most others hold a number below `end` or just beyond. */
 static const uint16_t *any_map_lent(size_t count, size_t end)
 {
     uint16_t *place = (uint16_t *)map.copy;
     for (size_t k = 0; k < count; k++)
-        place[k] = (uint16_t)(one_in(2) ? 0 : any_number(end));
+        place[k] = (uint16_t)(one_in(2) ? 0 : one_in(8) ? CUHNAVEL_HIDDEN : any_number(end));
     return lend(&map, count * sizeof *place, true);
 }
 
@@ -62,10 +62,12 @@ void call_pair(void)
     const uint64_t refusals[] = {
         refusal_of(of_sheet, CUHNAVEL_SHEET),
         call_refused(26, at >= count),
-        call_refused(25, at < count && place[at] >= entries),
+        call_refused(25, at < count && place[at] >= entries && place[at] != CUHNAVEL_HIDDEN),
     };
     uint64_t expected = first_of(refusals, 3);
-    if (expected == 0 && place[at] != 0)
+    if (expected == 0 && place[at] == CUHNAVEL_HIDDEN)
+        expected = (uint64_t)CUHNAVEL_HIDDEN << 16;
+    else if (expected == 0 && place[at] != 0)
         expected = (uint64_t)place[at] << 16 | (uint64_t)entry_start(place[at]) << 40;
     FACT(answer == expected);
 }

@@ -71,6 +71,27 @@ size_t any_length(size_t needed)
     }
 }
 
+uint64_t any_hidden(size_t cells)
+{
+    uint64_t every = UINT64_MAX >> (64 - cells), one = UINT64_C(1) << below(cells);
+    switch (below(8)) {
+    case 0:
+        return one;
+    case 1:
+        return every ^ one;
+    case 2:
+        return every;
+    case 3:
+        return every & random_next() & random_next();
+    case 4:
+        return every & random_next();
+    case 5: /* bits beyond the cells, unless there are 64 */
+        return one_in(4) ? random_next() : one_in(2) ? one << 1 : UINT64_C(1) << 63;
+    default:
+        return 0;
+    }
+}
+
 void fill(uint8_t *bytes, size_t size)
 {
     size_t kind = below(4);

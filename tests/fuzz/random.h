@@ -28,6 +28,9 @@ enum { MOST_MORE = 70 };
 /* Any length of a list of which `needed` are needed: mostly as many, else fewer or up to MOST_MORE more. */
 size_t any_length(size_t needed);
 
+/* Any word for a book of so many cells, which hides none of them, some or all; seldom it has bits beyond. */
+uint64_t any_hidden(size_t cells);
+
 /* Fills bytes: with zeros, ones or random ones. */
 void fill(uint8_t *bytes, size_t size);
 

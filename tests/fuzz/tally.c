@@ -11,7 +11,9 @@
 #define OF_BOOK (BIT(1) | BIT(2) | BIT(3) | BIT(4) | BIT(5) | BIT(6) | BIT(7))
 #define OF_SHEET (BIT(1) | BIT(2) | BIT(3) | BIT(8) | BIT(9) | BIT(10) | BIT(11) | BIT(12) | BIT(13) | BIT(14))
 
-enum { PARTS = 4, REFUSALS = 31 };
+#define OF_BOOK_AND_WORD (OF_BOOK | BIT(31)) /* and of the word that hides its cells */
+
+enum { PARTS = 4, REFUSALS = 32 };
 
 static struct {
     const char *name;
@@ -20,10 +22,10 @@ static struct {
 } functions[FUNCTIONS] = {
     [CHECK_BOOK] = {"check_book", {[CUHNAVEL_LEFT_BOOK] = OF_BOOK}},
     [CHECK_SHEET] = {"check_sheet", {[CUHNAVEL_SHEET] = OF_SHEET}},
-    [COMPARE] = {"compare", {BIT(20) | BIT(21) | BIT(22) | BIT(23), OF_BOOK, OF_BOOK}},
-    [COMPARE_ONE_WAY] = {"compare_one_way", {BIT(20) | BIT(21) | BIT(22) | BIT(23), OF_BOOK, OF_BOOK}},
-    [TRUTH] = {"truth", {BIT(24), OF_BOOK, 0, OF_SHEET}},
-    [CLAIM] = {"claim", {BIT(24) | BIT(25) | BIT(26), OF_BOOK, OF_BOOK, OF_SHEET}},
+    [COMPARE] = {"compare", {BIT(20) | BIT(21) | BIT(22) | BIT(23), OF_BOOK_AND_WORD, OF_BOOK_AND_WORD}},
+    [COMPARE_ONE_WAY] = {"compare_one_way", {BIT(20) | BIT(21) | BIT(22) | BIT(23), OF_BOOK_AND_WORD, OF_BOOK_AND_WORD}},
+    [TRUTH] = {"truth", {BIT(24), OF_BOOK_AND_WORD, 0, OF_SHEET}},
+    [CLAIM] = {"claim", {BIT(24) | BIT(25) | BIT(26), OF_BOOK_AND_WORD, OF_BOOK_AND_WORD, OF_SHEET}},
     [ROW] = {"row", {BIT(26) | BIT(27)}},
     [ROW_WORD] = {"row_word", {BIT(26) | BIT(27)}},
     [PAIR] = {"pair", {BIT(25) | BIT(26), 0, 0, OF_SHEET}},

@@ -3,29 +3,41 @@
 use crate::support::books::{
     book, chain, link, marked_ring, most_links, random_book, ring, silenced, Book,
 };
+use crate::support::hidden::{disguised, worded, Masked};
 use crate::support::random::Random;
 use crate::support::remade::{any_labels, damaged, grown, joined, renumbered, split};
 use crate::tally::Tally;
 
 /// How many pairs of books are drawn at each bound.
-const DRAWN: usize = 3_000;
+const DRAWN: usize = 3_200;
 
 /// The bounds.
 pub const BOUNDS: usize = 3;
 
 pub fn all(tally: &mut Tally) {
     let random = &mut Random::new(18);
+    let masks = &mut Random::new(22);
     every_small(tally);
     rings(tally);
     for bound in 0..BOUNDS {
         for _ in 0..DRAWN {
-            let books = drawn(random);
+            let books = drawn(random).map(|book| any_mask(masks, &book));
             tally.check(&books, bound);
         }
     }
 }
 
-/// Every two books of two cells and one label: with one recording, with two, with a silent cell.
+/// The book as it is, among further cells that are hidden, or with any word.
+fn any_mask(random: &mut Random, book: &Book) -> Masked {
+    match random.below(8) {
+        0..=2 => Masked::open(book),
+        3 => worded(random, book),
+        _ => disguised(random, book),
+    }
+}
+
+/// Every two books of two cells and one label: with one recording, with two, with a silent cell. Nothing is hidden, and once more at one bound
+/// something is.
 fn every_small(tally: &mut Tally) {
     let mut books = Vec::new();
     for recordings in [[5, 5], [5, 6], [5, 0]] {
@@ -36,11 +48,19 @@ fn every_small(tally: &mut Tally) {
             books.push(book(&recordings, &there));
         }
     }
+    let mut words = 1;
     for left in &books {
         for right in &books {
             for bound in 0..BOUNDS {
-                tally.check(&[left.clone(), right.clone()], bound);
+                tally.check(&[Masked::open(left), Masked::open(right)], bound);
             }
+            let masks = [(left, words % 4), (right, words / 4)];
+            let masks = masks.map(|(book, hidden)| Masked {
+                book: book.clone(),
+                hidden,
+            });
+            tally.check(&masks, 1);
+            words = words % 15 + 1; // of both not 0
         }
     }
 }
@@ -51,7 +71,7 @@ fn rings(tally: &mut Tally) {
         let one = marked_ring(cells, |x| x == 0);
         let others = marked_ring(cells + 1, |x| x != 0);
         for bound in 0..BOUNDS {
-            tally.check(&[one.clone(), others.clone()], bound);
+            tally.check(&[Masked::open(&one), Masked::open(&others)], bound);
         }
     }
 }

@@ -4,7 +4,8 @@ use crate::inputs::BOUNDS;
 use crate::levels::{Levels, Set};
 use crate::support::books::Book;
 use crate::support::call::Call;
-use crate::support::counts::{Silence, Versions};
+use crate::support::counts::{Hiding, Silence, Versions};
+use crate::support::hidden::{shown_map, Hidden, Masked};
 use crate::support::library::{self, needed};
 use crate::support::meaning::{sheet_cells, word};
 use crate::support::measures::{depths, keeping};
@@ -50,6 +51,7 @@ pub struct Tally {
     random: Random,
     versions: Versions,
     silence: Silence,
+    hiding: Hiding,
     /// Of each of the `FORMS`, by bound.
     seen: [[Seen; BOUNDS]; 2],
     /// The questions that were found among all of their depth: of sheets that were written, and others.
@@ -64,14 +66,15 @@ impl Tally {
             random: Random::new(19),
             versions: Versions::default(),
             silence: Silence::default(),
+            hiding: Hiding::default(),
             seen: Default::default(),
             found: [0; 2],
             both_forms: [0; 2],
         }
     }
 
-    /// Compares the books in both forms. What parts a pair one-way parts it two-sided too.
-    pub fn check(&mut self, books: &[Book; 2], bound: usize) {
+    /// Compares the books in both forms. What parts a pair one-way parts it two-sided too. Hidden cells are not asked.
+    pub fn check(&mut self, books: &[Masked; 2], bound: usize) {
         let [two, one] = FORMS.map(|sides| self.named(sides, books, bound));
         for (two, one) in two.iter().zip(&one) {
             assert!(one.is_none() || two.is_some());
@@ -80,28 +83,32 @@ impl Tally {
                 self.both_forms[(two < one) as usize] += 1;
             }
         }
-        self.silence.count(&[&books[0], &books[1]]);
+        let [left, right] = books;
+        self.silence
+            .count(&[&left.shown().book, &right.shown().book]);
+        self.hiding
+            .count_two(&left.book, &right.book, hidden_of(books));
     }
 
     /// The depth of the question that the library names for each pair of cells, or none for a pair that stays. It is the smallest of all
     /// questions that are true left and false right, and the round in which a naive comparison drops the pair.
-    fn named(
-        &mut self,
-        sides: Sides,
-        [left, right]: &[Book; 2],
-        bound: usize,
-    ) -> Vec<Option<usize>> {
-        let (one, other) = (
-            left.any_bytes(&mut self.random),
-            right.any_bytes(&mut self.random),
-        );
+    fn named(&mut self, sides: Sides, books: &[Masked; 2], bound: usize) -> Vec<Option<usize>> {
+        let hidden = hidden_of(books);
+        let [one, other] = books
+            .each_ref()
+            .map(|masked| masked.book.any_bytes(&mut self.random));
+        let shown = books.each_ref().map(Masked::shown);
+        let [left, right] = shown.each_ref().map(|shown| &shown.book);
         self.versions.count(&[&one, &other]);
         let call = Call {
             name: sides.operation(),
-            numbers: format!("bound {bound}"),
+            numbers: format!("bound {bound}, {hidden:x?}"),
             inputs: &[("left book", &one), ("right book", &other)],
         };
-        let (map, sheet) = compared(sides, &one, &other, bound);
+        let (map, sheet) = compared(sides, &one, &other, bound, hidden);
+        let Some(map) = shown_map(&shown[0], &shown[1], &map) else {
+            call.fail("the map does not hold 65,535 where a cell is hidden, and nowhere else");
+        };
         let depths = depths(&sheet);
         let named = |&number: &u16| (number != 0).then(|| depths[number as usize]);
         let named: Vec<_> = map.iter().map(named).collect();
@@ -126,6 +133,9 @@ impl Tally {
             seen.count(least);
         }
         self.found[0] += found(&call, &levels, &books, &sheet);
+        if books.cells() == 0 {
+            return named;
+        }
         let others = others(&mut self.random, &books, bound, sides);
         self.found[1] += found(&call, &levels, &books, &others);
         named
@@ -167,16 +177,39 @@ impl Tally {
         assert!(deeper >= RARE);
         self.versions.report("compare");
         self.silence.report("compare");
+        self.hiding.report("compare");
         pairs
     }
 }
 
+fn hidden_of([left, right]: &[Masked; 2]) -> Hidden {
+    Hidden {
+        left: left.hidden,
+        right: right.hidden,
+    }
+}
+
 /// The map and the sheet that the library leaves.
-fn compared(sides: Sides, left: &[u8], right: &[u8], bound: usize) -> (Vec<u16>, Sheet) {
+fn compared(
+    sides: Sides,
+    left: &[u8],
+    right: &[u8],
+    bound: usize,
+    hidden: Hidden,
+) -> (Vec<u16>, Sheet) {
     let pairs = left[5] as usize * right[5] as usize;
     let (map, room, scratch) = needed(pairs, written_version(left[4], right[4]));
     let (mut map, mut room, mut scratch) = (vec![0; map], vec![0; room], vec![0; scratch]);
-    let answer = library::compare(sides, left, right, bound, &mut map, &mut room, &mut scratch);
+    let answer = library::compare(
+        sides,
+        left,
+        right,
+        bound,
+        hidden,
+        &mut map,
+        &mut room,
+        &mut scratch,
+    );
     assert_eq!(answer.refusal, 0);
     let sheet = Sheet::of_bytes(&room[..answer.first as usize]);
     assert!(sides == Sides::Two || !sheet.denies());

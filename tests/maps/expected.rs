@@ -2,6 +2,7 @@
 
 use crate::support::books::{link, Book};
 use crate::support::checks::{check_book, check_sheet};
+use crate::support::hidden::HIDDEN;
 use crate::support::outcome::{accepted, refused, Outcome, CALL, LEFT_BOOK};
 use crate::support::sheets::entry_starts;
 use crate::support::versions::{label_bytes, link_width};
@@ -27,7 +28,7 @@ pub fn row(map: &[u16], m: usize, i: usize) -> (Outcome, u64) {
 }
 
 /// "The sheet's refusal; 26: place outside the map. At 0 it says matched; .. 25 if its number is not below q, else its number
-/// and the byte of the sheet where its entry starts."
+/// and the byte of the sheet where its entry starts." "Pair says hidden (before 25)" at 65,535 (document 02, request 2026-07).
 pub fn pair(map: &[u16], place: usize, sheet: &[u8]) -> Outcome {
     let check = check_sheet(sheet);
     if check.refusal != 0 {
@@ -38,6 +39,9 @@ pub fn pair(map: &[u16], place: usize, sheet: &[u8]) -> Outcome {
     };
     if number == 0 {
         return accepted(0, 0);
+    }
+    if number == HIDDEN {
+        return accepted(HIDDEN as u32, 0);
     }
     if number as u32 >= check.first {
         return refused(CALL, 25);

@@ -37,7 +37,7 @@ fn any_number(random: &mut Random) -> usize {
     }
 }
 
-/// A map of so many places: some 0 or all, the others small numbers or any.
+/// A map of so many places: some 0 or all, some hidden, the others small numbers or any.
 fn any_map(random: &mut Random, length: usize) -> Vec<u16> {
     let zero = random.pick(&[1, 2, 2, 4, 100]);
     let most = random.pick(&[1, 2, 300, 65_535]);
@@ -45,6 +45,8 @@ fn any_map(random: &mut Random, length: usize) -> Vec<u16> {
         .map(|_| {
             if random.one_in(zero) {
                 0
+            } else if random.one_in(8) {
+                65_535
             } else {
                 random.between(1, most) as u16
             }
@@ -75,6 +77,9 @@ fn rows_by_hand(tally: &mut Tally) {
     tally.expect_row(&[], 0, 0, refusal(27), 0);
     tally.expect_row(&[0; 64], 64, 0, accepted(64, 0), u64::MAX);
     tally.expect_row(&[1; 64], 64, 0, accepted(0, 0), 0);
+    // Places with a hidden cell are not 0.
+    tally.expect_row(&[0, 65_535, 0, 65_535], 4, 0, accepted(2, 0), 0b101);
+    tally.expect_row(&[65_535; 64], 64, 0, accepted(0, 0), 0);
     tally.expect_row(&[0; 65], 65, 0, refusal(27), 0);
 }
 
@@ -132,18 +137,21 @@ fn pairs_of_version(tally: &mut Tally, version: u8, second: u32) {
         ],
     }
     .bytes(version);
-    let map = [1, 2, 0, 3, 65_535];
+    let map = [1, 2, 0, 3, 65_535, 65_534, 32_767];
     tally.expect_pair(&map, 0, &sheet, accepted(1, 10));
     tally.expect_pair(&map, 1, &sheet, accepted(2, second));
     tally.expect_pair(&map, 2, &sheet, accepted(0, 0));
     tally.expect_pair(&map, 3, &sheet, refused(CALL, 25));
-    tally.expect_pair(&map, 4, &sheet, refused(CALL, 25));
-    tally.expect_pair(&map, 5, &sheet, refused(CALL, 26));
+    tally.expect_pair(&map, 4, &sheet, accepted(65_535, 0)); // hidden
+    tally.expect_pair(&map, 5, &sheet, refused(CALL, 25));
+    tally.expect_pair(&map, 6, &sheet, refused(CALL, 25));
+    tally.expect_pair(&map, 7, &sheet, refused(CALL, 26));
     tally.expect_pair(&map, usize::MAX, &sheet, refused(CALL, 26));
     tally.expect_pair(&[], 0, &sheet, refused(CALL, 26));
-    // The sheet's refusal comes first, also where the pair is matched.
+    // The sheet's refusal comes first, also where the pair is matched or hidden.
     tally.expect_pair(&map, 2, &sheet[..7], refused(SHEET, 1));
-    tally.expect_pair(&map, 5, &sheet[..20], refused(SHEET, 2));
+    tally.expect_pair(&map, 4, &sheet[..7], refused(SHEET, 1));
+    tally.expect_pair(&map, 7, &sheet[..20], refused(SHEET, 2));
 }
 
 /// Every place of a map, the first beyond and any, with numbers at and beyond q.
@@ -159,7 +167,19 @@ fn pairs(tally: &mut Tally, random: &mut Random) {
             .map(|_| {
                 let any = random.next() as usize;
                 let below = random.below(q);
-                random.pick(&[0, below, below, below, q - 1, q, q + 1, 256 + below, any]) as u16
+                random.pick(&[
+                    0,
+                    below,
+                    below,
+                    below,
+                    q - 1,
+                    q,
+                    q + 1,
+                    256 + below,
+                    any,
+                    65_535,
+                    65_535,
+                ]) as u16
             })
             .collect();
         for place in 0..=length {

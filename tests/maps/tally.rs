@@ -3,6 +3,7 @@
 use crate::expected;
 use crate::support::call::Call;
 use crate::support::counts::{Counts, Versions, OF_BOOK, OF_SHEET};
+use crate::support::hidden::HIDDEN;
 use crate::support::lent::Lent;
 use crate::support::library;
 use crate::support::outcome::{Outcome, CALL, LEFT_BOOK, SHEET};
@@ -77,6 +78,7 @@ impl Tally {
         call.unchanged(&lent_sheet, sheet);
         let name = match answer.first {
             0 => "matched",
+            first if first == HIDDEN as u32 => "hidden",
             _ => "parted",
         };
         self.pair.count(answer, name);
@@ -133,7 +135,7 @@ impl Tally {
         self.links_versions.report("links");
         self.row.report(&["counted"], &[(CALL, &[26, 27])])
             + self.pair.report(
-                &["matched", "parted"],
+                &["matched", "parted", "hidden"],
                 &[(SHEET, &OF_SHEET), (CALL, &[25, 26])],
             )
             + self.links.report(

@@ -1,8 +1,10 @@
 //! Compare in plain Rust, by the library's method: the same rounds over the same pairs in the same order, without those near which the round before
 //! parted none, and those that a row before tells to stay where both sides count; the same search over classes of paths in tables, without covered tips, for whether there is a reason, and
-//! then link by link for the first. So map and sheet are the library's to the byte, with tables of whatever size.
+//! then link by link for the first. So map and sheet are the library's to the byte, with tables of whatever size. Hidden cells
+//! are cut from the books when these are read.
 
 use crate::support::checks::check_book;
+use crate::support::hidden::{beyond_refusal, hides, Hidden, HIDDEN};
 use crate::support::outcome::{accepted, refused, Outcome, CALL, LEFT_BOOK, RIGHT_BOOK};
 use crate::support::recordings::{recording, COMPARISONS};
 use crate::support::sides::Sides;
@@ -19,37 +21,43 @@ const SAME: u8 = 5; // and differ is 6
 /// The most links of a way in a same or differ.
 const LONGEST: usize = 4;
 
-/// A book, read once. Cells and links are counted from 0.
+/// A book, read once, without the links and recordings of hidden cells. Cells and links are counted from 0.
 struct Graph {
     cells: usize,
+    /// The cells that are hidden.
+    hidden: u64,
     /// The links out of cell x are those from `starts[x]` up to `starts[x + 1]`.
     starts: [u16; 65],
     labels: [u16; 512],
     to: [u8; 512],
-    /// For each cell the cells of the same recording, and those of another; none where it or they are silent.
+    /// For each cell the cells of the same recording, and those of another; none where it or they are silent or hidden.
     ends: [[u64; 64]; 2],
 }
 
-fn read(book: &[u8]) -> Graph {
+fn read(book: &[u8], hidden: u64) -> Graph {
     let width = link_width(book[4]);
     let cells = book[5] as usize;
     let (recordings, links) = book[8..].split_at(4 * cells);
     let recordings: Vec<u32> = recordings.chunks(4).map(recording).collect();
+    let shown = |cell: usize| !hides(hidden, cell);
     let mut graph = Graph {
         cells,
+        hidden,
         starts: [0; 65],
         labels: [0; 512],
         to: [0; 512],
         ends: [[0; 64]; 2],
     };
-    for x in 0..cells {
-        for y in 0..cells {
+    for x in (0..cells).filter(|&x| shown(x)) {
+        for y in (0..cells).filter(|&y| shown(y)) {
             for (ends, comparison) in graph.ends.iter_mut().zip(COMPARISONS) {
                 ends[x] |= (comparison.passes(recordings[x], recordings[y]) as u64) << y;
             }
         }
     }
-    for (k, link) in links.chunks(width).enumerate() {
+    let links = links.chunks(width);
+    let links = links.filter(|link| shown(link[0] as usize) && shown(link[width - 1] as usize));
+    for (k, link) in links.enumerate() {
         graph.labels[k] = label_of(&link[1..width - 1]);
         graph.to[k] = link[width - 1] & 63; // below 64, so that no index is tested
         graph.starts[link[0] as usize + 1] += 1;
@@ -715,6 +723,17 @@ impl Sheet<'_> {
     }
 }
 
+/// Every place holds 0, or 65,535 where a cell of the pair is hidden.
+fn begin(map: &mut [u16], left: &Graph, right: &Graph) {
+    for (k, place) in map.iter_mut().enumerate() {
+        let (i, j) = (k / right.cells, k % right.cells);
+        *place = match hides(left.hidden, i) || hides(right.hidden, j) {
+            true => HIDDEN,
+            false => 0,
+        };
+    }
+}
+
 /// The relation that the map tells: for each left cell the right cells whose place holds 0, and for each right cell the left ones.
 fn relation(map: &[u16], n: usize, m: usize) -> ([u64; 64], [u64; 64]) {
     let (mut rows, mut columns) = ([0; 64], [0; 64]);
@@ -820,6 +839,7 @@ pub fn compare<const PLACES: usize>(
     left: &[u8],
     right: &[u8],
     bound: usize,
+    hidden: Hidden,
     map: &mut [u16],
     room: &mut [u8],
     scratch: &mut [u8],
@@ -834,6 +854,13 @@ pub fn compare<const PLACES: usize>(
             return check;
         }
     }
+    let words = [
+        (left, hidden.left, LEFT_BOOK),
+        (right, hidden.right, RIGHT_BOOK),
+    ];
+    if let Some(refusal) = beyond_refusal(&words) {
+        return refusal;
+    }
     let version = written_version(left[4], right[4]);
     let pairs = left[5] as usize * right[5] as usize;
     if map.len() != pairs {
@@ -846,8 +873,8 @@ pub fn compare<const PLACES: usize>(
         return refused(CALL, 23);
     }
 
-    let (left, right) = (read(left), read(right));
-    map.fill(0);
+    let (left, right) = (read(left, hidden.left), read(right, hidden.right));
+    begin(map, &left, &right);
     let mut sheet = Sheet {
         version,
         room,

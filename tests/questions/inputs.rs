@@ -4,6 +4,7 @@ use crate::expected::{truth_words, Asked};
 use crate::support::books::{
     book, chain, example_a_left, example_a_right, link, random_book, Book,
 };
+use crate::support::hidden::{any_word, hides, masked, Hidden, NOTHING};
 use crate::support::meaning::{sheet_cells, spelled_out};
 use crate::support::outcome::accepted;
 use crate::support::random::Random;
@@ -19,6 +20,7 @@ pub fn all(tally: &mut Tally) {
     let random = &mut Random::new(3);
     by_hand(tally);
     silent(tally);
+    hidden(tally);
     spelled(tally, random);
     small(tally, random);
     sizes(tally, random);
@@ -99,9 +101,70 @@ fn silent(tally: &mut Tally) {
         let book = book(&[heard, 0, heard], &links);
         for [one, other] in MIXES {
             let (book, sheet) = (book.bytes(one), sheet.bytes(other));
-            assert_eq!(truth_words(&book, &sheet), words);
+            assert_eq!(truth_words(&book, 0, &sheet), words);
             let before = [u64::MAX; 11];
-            tally.expect_truth(&book, &sheet, &before, accepted(0, 0), &words);
+            tally.expect_truth(&book, 0, &sheet, &before, accepted(0, 0), &words);
+        }
+    }
+}
+
+/// A chain of three cells of which the middle one is hidden, and words found by hand: no entry is true there, and no way leads there or from
+/// there. Claim says no at it, and leaves the words of the right book.
+fn hidden(tally: &mut Tally) {
+    let one = || vec![step(1, 0)];
+    let entries = [
+        (Entry::True, 5, 7),
+        (Entry::Not(0), 0, 0),
+        (Entry::Way(one()), 0, 3),
+        (Entry::Not(2), 5, 4),
+        (Entry::Same(vec![], vec![]), 5, 7),
+        (Entry::Not(4), 0, 0),
+        (Entry::Differ(vec![], one()), 0, 3),
+        (Entry::Or(0, 2), 5, 7),
+        (Entry::Way(vec![step(2, 0)]), 4, 4), // a loop at the last cell
+        (Entry::Way(vec![step(3, 0)]), 0, 2), // a loop at the middle one
+    ];
+    let sheet = Sheet {
+        bound: 1,
+        entries: entries.iter().map(|(entry, _, _)| entry.clone()).collect(),
+    };
+    let without: Vec<u64> = entries.iter().map(|&(_, word, _)| word).collect();
+    let with: Vec<u64> = entries.iter().map(|&(_, _, word)| word).collect();
+    let links = [link(0, 1, 1), link(1, 1, 2), link(1, 3, 1), link(2, 2, 2)];
+    let before = [u64::MAX; 10];
+    for [one, other] in MIXES {
+        let bytes = book(&[5, 6, 7], &links).bytes(one);
+        let sheet = sheet.bytes(other);
+        for (word, words) in [(0, &with), (2, &without), (7, &vec![0; 10])] {
+            assert_eq!(truth_words(&bytes, word, &sheet), *words);
+            tally.expect_truth(&bytes, word, &sheet, &before, accepted(0, 0), words);
+        }
+        for (left, right) in [(2, 0), (0, 2), (2, 2)] {
+            let of = |word, left: usize| {
+                if word == 2 {
+                    &without[left]
+                } else {
+                    &with[left]
+                }
+            };
+            let after = if right == 2 { &without } else { &with };
+            for place in 0..90 {
+                let (entry, left_cell, right_cell) = (place / 9, place % 9 / 3, place % 3);
+                let asked = Asked {
+                    left: &bytes,
+                    right: &bytes,
+                    hidden: Hidden { left, right },
+                    sheet: &sheet,
+                    entry,
+                    left_cell,
+                    right_cell,
+                };
+                let is_hidden = hides(left, left_cell) || hides(right, right_cell);
+                let yes = of(left, entry) >> left_cell & 1 == 1
+                    && of(right, entry) >> right_cell & 1 == 0
+                    && !is_hidden;
+                tally.expect_claim(asked, &before, accepted(yes as u32, 0), after);
+            }
         }
     }
 }
@@ -115,14 +178,15 @@ fn expect(
     of_left: &[u64],
     of_right: &[u64],
 ) {
-    assert_eq!(truth_words(left, sheet), of_left);
-    assert_eq!(truth_words(right, sheet), of_right);
+    assert_eq!(truth_words(left, 0, sheet), of_left);
+    assert_eq!(truth_words(right, 0, sheet), of_right);
     let before = vec![u64::MAX; of_left.len()];
-    tally.expect_truth(left, sheet, &before, accepted(0, 0), of_left);
-    tally.expect_truth(right, sheet, &before, accepted(0, 0), of_right);
+    tally.expect_truth(left, 0, sheet, &before, accepted(0, 0), of_left);
+    tally.expect_truth(right, 0, sheet, &before, accepted(0, 0), of_right);
     let asked = |entry, left_cell, right_cell| Asked {
         left,
         right,
+        hidden: NOTHING,
         sheet,
         entry,
         left_cell,
@@ -171,7 +235,7 @@ fn perhaps_wider(random: &mut Random, sheet: &Sheet) -> Sheet {
     }
 }
 
-/// Truth of both books, and so many claims: some that are yes, if there are such. All are of any version.
+/// Truth of both books, with some cells hidden or not, and so many claims: some that are yes, if there are such. All are of any version.
 fn ask(
     tally: &mut Tally,
     random: &mut Random,
@@ -181,15 +245,29 @@ fn ask(
     claims: usize,
 ) {
     let q = sheet.entries.len();
-    let (cells, right_cells) = (left.cells(), right.cells());
-    let (left, right) = (left.any_bytes(random), right.any_bytes(random));
+    let same = left == right;
+    let left = masked(random, left);
+    let mut right = masked(random, right);
+    if same {
+        right = left.clone();
+        if random.one_in(2) {
+            right.hidden = any_word(random, right.book.cells());
+        }
+    }
+    let hidden = Hidden {
+        left: left.hidden,
+        right: right.hidden,
+    };
+    let (cells, right_cells) = (left.book.cells(), right.book.cells());
+    let (left, right) = (left.book.any_bytes(random), right.book.any_bytes(random));
     let sheet = perhaps_wider(random, sheet).any_bytes(random);
-    let of_left = tally.truth(&left, &sheet, &any_words(random, q));
-    let of_right = tally.truth(&right, &sheet, &any_words(random, q));
+    let of_left = tally.truth(&left, hidden.left, &sheet, &any_words(random, q));
+    let of_right = tally.truth(&right, hidden.right, &sheet, &any_words(random, q));
     for turn in 0..claims {
         let mut draw = || Asked {
             left: &left,
             right: &right,
+            hidden,
             sheet: &sheet,
             entry: random.below(q),
             left_cell: random.below(cells),
@@ -197,7 +275,8 @@ fn ask(
         };
         let mut asked = draw();
         let yes = |asked: &Asked| {
-            of_left[asked.entry] >> asked.left_cell & 1 == 1
+            !asked.of_hidden()
+                && of_left[asked.entry] >> asked.left_cell & 1 == 1
                 && of_right[asked.entry] >> asked.right_cell & 1 == 0
         };
         for _ in 0..40 {

@@ -3,6 +3,7 @@
 use crate::expected::Asked;
 use crate::support::checks::check_sheet;
 use crate::support::counts::{OF_BOOK, OF_SHEET};
+use crate::support::hidden::{any_word, word_beyond, Hidden};
 use crate::support::random::Random;
 use crate::support::refusals::{beyond, book_refused, change_byte, or_none, sheet_refused};
 use crate::tally::Tally;
@@ -34,35 +35,54 @@ fn words(random: &mut Random, sheet: &[u8], few: bool) -> Vec<u64> {
     (0..count).map(|_| random.next()).collect()
 }
 
-/// Every refusal of the book with every refusal of the sheet, with and without 24.
+/// A word for the book that the header speaks of, as far as there is one: with a bit beyond the cells or without.
+fn word(random: &mut Random, book: &[u8], beyond: bool) -> u64 {
+    let cells = (*book.get(5).unwrap_or(&1)).clamp(1, 63) as usize;
+    match beyond {
+        true => word_beyond(random, cells),
+        false => any_word(random, cells),
+    }
+}
+
+/// Every refusal of the book with every refusal of the sheet, with and without 24 and 31.
 fn truth(tally: &mut Tally, random: &mut Random) {
     for of_book in or_none(&OF_BOOK) {
         for of_sheet in or_none(&OF_SHEET) {
-            for few in [false, true] {
-                for _ in 0..12 {
+            for (few, beyond) in [(false, false), (true, false), (false, true), (true, true)] {
+                for _ in 0..8 {
                     let book = book_refused(random, of_book);
                     let sheet = sheet_refused(random, of_sheet);
                     let words = words(random, &sheet, few);
-                    tally.truth(&book, &sheet, &words);
+                    let hidden = word(random, &book, beyond);
+                    tally.truth(&book, hidden, &sheet, &words);
                 }
             }
         }
     }
 }
 
-/// Every refusal of each book with every refusal of the sheet, with and without each of 24, 25 and 26.
+/// Every refusal of each book with every refusal of the sheet, with and without each of 24, 25 and 26, and of 31 of the left and the right.
 fn claim(tally: &mut Tally, random: &mut Random) {
     for of_left in or_none(&OF_BOOK) {
         for of_right in or_none(&OF_BOOK) {
             for of_sheet in or_none(&OF_SHEET) {
                 let accepted = of_left == 0 && of_right == 0 && of_sheet == 0;
                 for round in 0..if accepted { 64 * 16 } else { 16 } {
+                    // Bits beyond the cells of neither book, of the left, of the right, of both.
+                    let beyond_cells = [16, 32].map(|bit| match accepted {
+                        true => round & bit != 0,
+                        false => random.one_in(2),
+                    });
                     let left = book_refused(random, of_left);
                     let right = book_refused(random, of_right);
                     let sheet = sheet_refused(random, of_sheet);
                     let [few, far_entry, far_left, far_right] =
                         [1, 2, 4, 8].map(|bit| round & bit != 0);
                     let words = words(random, &sheet, few);
+                    let hidden = Hidden {
+                        left: word(random, &left, beyond_cells[0]),
+                        right: word(random, &right, beyond_cells[1]),
+                    };
                     let mut number = |count: Option<&u8>, far: bool| {
                         let count = (*count.unwrap_or(&1)).clamp(1, 64) as usize;
                         match far {
@@ -73,6 +93,7 @@ fn claim(tally: &mut Tally, random: &mut Random) {
                     let asked = Asked {
                         left: &left,
                         right: &right,
+                        hidden,
                         sheet: &sheet,
                         entry: number(sheet.get(7), far_entry),
                         left_cell: number(left.get(5), far_left),
@@ -97,11 +118,26 @@ fn numbers(tally: &mut Tally, random: &mut Random) {
         let asked = Asked {
             left: &left,
             right: &right,
+            hidden: Hidden {
+                left: any_word(random, n),
+                right: any_word(random, m),
+            },
             sheet: &sheet,
             entry: random.below(q),
             left_cell: random.below(n),
             right_cell: random.below(m),
         };
+        // The last bit that may be set and the first that may not be, of either word: each is judged by its own book.
+        for bit in [n - 1, n, m - 1, m, 63] {
+            for [one, other] in [[1, 0], [0, 1], [1, 1]] {
+                let hidden = Hidden {
+                    left: one << bit,
+                    right: other << bit,
+                };
+                tally.claim(Asked { hidden, ..asked }, &words);
+                tally.truth(&left, hidden.left, &sheet, &words);
+            }
+        }
         for entry in [0, q - 1, q, usize::MAX] {
             tally.claim(Asked { entry, ..asked }, &words);
         }
@@ -136,10 +172,15 @@ fn damaged(tally: &mut Tally, random: &mut Random) {
         }
         let few = random.one_in(8);
         let words = words(random, &sheet, few);
-        tally.truth(&left, &sheet, &words);
+        let hidden = Hidden {
+            left: word(random, &left, false),
+            right: word(random, &right, false),
+        };
+        tally.truth(&left, hidden.left, &sheet, &words);
         let asked = Asked {
             left: &left,
             right: &right,
+            hidden,
             sheet: &sheet,
             entry: random.below(4),
             left_cell: random.below(3),

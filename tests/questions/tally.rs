@@ -1,13 +1,17 @@
 //! Compares the library with what is expected, call by call, and counts the answers.
 
-use crate::expected::{self, Asked};
+use crate::expected::{self, truth_words, Asked};
 use crate::plain;
 use crate::support::books::Book;
-use crate::support::counts::{Counts, Silence, Versions, OF_BOOK, OF_SHEET};
+use crate::support::counts::{Counts, Hiding, Silence, Versions, OF_BOOK_AND_WORD, OF_SHEET};
 use crate::support::hex;
+use crate::support::hidden::hides;
 use crate::support::lent::Lent;
 use crate::support::library;
 use crate::support::outcome::{Outcome, CALL, LEFT_BOOK, RIGHT_BOOK, SHEET};
+
+/// Sheets of fewer bytes are asked once more for what is counted.
+const FEW: usize = 1_000;
 
 /// How many bytes of an input are printed.
 const PRINTED: usize = 16_384;
@@ -20,6 +24,10 @@ pub struct Tally {
     claim_versions: Versions,
     /// Of the books of Truth.
     silence: Silence,
+    hiding: Hiding,
+    /// Claims of a hidden cell: of the left book alone, of the right one alone, of both; and of the first two those of an entry that is true at
+    /// the left or false at the right cell that is shown.
+    hidden_claims: [usize; 5],
     turn: usize,
     /// Words of Truth: of no cell, of every cell, and of others.
     none: usize,
@@ -35,6 +43,8 @@ impl Tally {
             truth_versions: Versions::default(),
             claim_versions: Versions::default(),
             silence: Silence::default(),
+            hiding: Hiding::default(),
+            hidden_claims: [0; 5],
             turn: 0,
             none: 0,
             every: 0,
@@ -43,20 +53,20 @@ impl Tally {
     }
 
     /// The library and the naive evaluator agree on Truth, and the library changes nothing else. Gives the words.
-    pub fn truth(&mut self, book: &[u8], sheet: &[u8], words: &[u64]) -> Vec<u64> {
-        let (expected, expected_words) = expected::truth(book, sheet, words);
-        self.expect_truth(book, sheet, words, expected, &expected_words);
+    pub fn truth(&mut self, book: &[u8], hidden: u64, sheet: &[u8], words: &[u64]) -> Vec<u64> {
+        let (expected, expected_words) = expected::truth(book, hidden, sheet, words);
+        self.expect_truth(book, hidden, sheet, words, expected, &expected_words);
         let mut plain_words = words.to_vec();
-        let written = plain::truth(book, sheet, &mut plain_words);
+        let written = plain::truth(book, hidden, sheet, &mut plain_words);
         if written != (expected.refusal == 0) || plain_words != expected_words {
             panic!(
-                "Truth in plain Rust gives other words: book {}, sheet {}",
+                "Truth in plain Rust gives other words: book {}, hidden {hidden:#x}, sheet {}",
                 hex(book),
                 hex(sheet)
             );
         }
         if expected.refusal == 0 {
-            let every = u64::MAX >> (64 - book[5]);
+            let every = u64::MAX >> (64 - book[5]) & !hidden;
             let q = u16::from_be_bytes([sheet[6], sheet[7]]) as usize;
             for &word in &expected_words[..q] {
                 *match word {
@@ -73,6 +83,7 @@ impl Tally {
     pub fn expect_truth(
         &mut self,
         book: &[u8],
+        hidden: u64,
         sheet: &[u8],
         words: &[u64],
         expected: Outcome,
@@ -83,21 +94,28 @@ impl Tally {
         let mut lent_sheet = Lent::new(sheet, self.turn + 3, around as u8);
         let mut lent_words = Lent::new(words, self.turn, around);
 
-        let answer = library::truth(lent_book.lend(), lent_sheet.lend(), lent_words.lend());
+        let answer = library::truth(
+            lent_book.lend(),
+            hidden,
+            lent_sheet.lend(),
+            lent_words.lend(),
+        );
 
         let call = Call {
             name: "truth",
             case: self.truth.cases(),
             bytes: &[("book", book), ("sheet", sheet)],
             words,
-            numbers: String::new(),
+            numbers: format!(", hidden {hidden:#x}"),
         };
         call.compare(answer, expected, &lent_words, expected_words);
         call.unchanged(&[(&lent_book, book), (&lent_sheet, sheet)]);
         self.truth.count(answer, "words written");
         if answer.refusal == 0 {
             self.truth_versions.count(&[book, sheet]);
-            self.silence.count(&[&Book::of_bytes(book)]);
+            let book = Book::of_bytes(book);
+            self.silence.count(&[&book]);
+            self.hiding.count(&book, hidden);
         }
         self.turn += 1;
     }
@@ -131,6 +149,7 @@ impl Tally {
         let answer = library::claim(
             left,
             right,
+            asked.hidden,
             lent_sheet.lend(),
             asked.entry,
             asked.left_cell,
@@ -148,8 +167,8 @@ impl Tally {
             ],
             words,
             numbers: format!(
-                ", entry {}, left cell {}, right cell {}",
-                asked.entry, asked.left_cell, asked.right_cell
+                ", {:x?}, entry {}, left cell {}, right cell {}",
+                asked.hidden, asked.entry, asked.left_cell, asked.right_cell
             ),
         };
         call.compare(answer, expected, &lent_words, expected_words);
@@ -165,8 +184,33 @@ impl Tally {
                 left, right, sheet, ..
             } = asked;
             self.claim_versions.count(&[left, right, sheet]);
+            self.count_hidden(asked);
         }
         self.turn += 1;
+    }
+
+    fn count_hidden(&mut self, asked: Asked) {
+        let at_left = hides(asked.hidden.left, asked.left_cell);
+        let at_right = hides(asked.hidden.right, asked.right_cell);
+        if !at_left && !at_right {
+            return;
+        }
+        self.hidden_claims[2 * at_right as usize + at_left as usize - 1] += 1;
+        let holds = |book, hidden, cell: usize| {
+            truth_words(book, hidden, asked.sheet)[asked.entry] >> cell & 1 == 1
+        };
+        if !at_left
+            && asked.sheet.len() < FEW
+            && holds(asked.left, asked.hidden.left, asked.left_cell)
+        {
+            self.hidden_claims[3] += 1;
+        }
+        if !at_right
+            && asked.sheet.len() < FEW
+            && !holds(asked.right, asked.hidden.right, asked.right_cell)
+        {
+            self.hidden_claims[4] += 1;
+        }
     }
 
     fn around(&self) -> u64 {
@@ -177,7 +221,11 @@ impl Tally {
     pub fn report(&self) -> usize {
         let truth = self.truth.report(
             &["words written"],
-            &[(LEFT_BOOK, &OF_BOOK), (SHEET, &OF_SHEET), (CALL, &[24])],
+            &[
+                (LEFT_BOOK, &OF_BOOK_AND_WORD),
+                (SHEET, &OF_SHEET),
+                (CALL, &[24]),
+            ],
         );
         println!("  words written, true at no cell     {:>9}", self.none);
         println!("  words written, true at every cell  {:>9}", self.every);
@@ -189,14 +237,23 @@ impl Tally {
         let claim = self.claim.report(
             &["yes", "no"],
             &[
-                (LEFT_BOOK, &OF_BOOK),
-                (RIGHT_BOOK, &OF_BOOK),
+                (LEFT_BOOK, &OF_BOOK_AND_WORD),
+                (RIGHT_BOOK, &OF_BOOK_AND_WORD),
                 (SHEET, &OF_SHEET),
                 (CALL, &[24, 25, 26]),
             ],
         );
         self.truth_versions.report("truth");
         self.silence.report("truth");
+        self.hiding.report("truth");
+        println!(
+            "claims of a hidden cell, left, right and both, and of what is true at the left or false at the right one: {:?}",
+            self.hidden_claims
+        );
+        assert!(
+            self.hidden_claims.iter().all(|&times| times >= 100),
+            "too few claims are of a hidden cell"
+        );
         self.claim_versions.report("claim");
         truth + claim
     }

@@ -1,12 +1,15 @@
 //! How often each answer was seen, and each mix of versions.
 
-use super::books::Book;
+use super::books::{Book, Link};
+use super::hidden::{hides, Hidden};
 use super::outcome::{Outcome, CALL, LEFT_BOOK, RIGHT_BOOK, SHEET};
 use super::recordings::SILENT;
 use std::collections::BTreeMap;
 
 /// The refusals of a check, by document 01.
 pub const OF_BOOK: [u8; 7] = [1, 2, 3, 4, 5, 6, 7];
+/// Those, and that of the word that hides its cells.
+pub const OF_BOOK_AND_WORD: [u8; 8] = [1, 2, 3, 4, 5, 6, 7, 31];
 pub const OF_SHEET: [u8; 10] = [1, 2, 3, 8, 9, 10, 11, 12, 13, 14];
 
 /// The counts of one operation.
@@ -127,6 +130,92 @@ impl Silence {
         let all: usize = self.0.iter().sum();
         if self.0.iter().any(|times| times * 20 < all) {
             println!("{operation}: so many silent cells were seen too seldom");
+            std::process::exit(1);
+        }
+    }
+}
+
+/// How often so many cells were hidden in books that were accepted, and which.
+#[derive(Default)]
+pub struct Hiding {
+    books: usize,
+    /// No cell, one, fewer than half, half or more, all but one, all. A book of few cells counts for the last of these that it is.
+    cells: [usize; 6],
+    /// Books with a hidden cell that is silent, that has a link to itself, to another hidden cell, to a shown one, from a shown one.
+    kinds: [usize; 5],
+    /// Calls with two books, by what is hidden of the left and of the right one: nothing, some, all.
+    both: [[usize; 3]; 3],
+}
+
+const HIDDEN_CELLS: [&str; 6] = ["none", "one", "few", "many", "all but one", "all"];
+const HIDDEN_KINDS: [&str; 5] = [
+    "silent",
+    "linked to itself",
+    "linked to another hidden cell",
+    "linked to a shown cell",
+    "linked from a shown cell",
+];
+
+impl Hiding {
+    pub fn count(&mut self, book: &Book, hidden: u64) {
+        self.books += 1;
+        let (cells, many) = (book.cells(), hidden.count_ones() as usize);
+        self.cells[match many {
+            0 => 0,
+            _ if many == cells => 5,
+            _ if many == cells - 1 => 4,
+            1 => 1,
+            _ if 2 * many < cells => 2,
+            _ => 3,
+        }] += 1;
+        let hides = |cell: u8| hides(hidden, cell as usize);
+        let silent = |&x: &usize| hides(x as u8) && book.recordings[x] == SILENT;
+        let has = |from: bool, to: bool, itself: bool| {
+            let is = |of: &Link| hides(of.from) == from && hides(of.to) == to;
+            let mut links = book.links.iter();
+            links.any(|of| is(of) && (of.from == of.to) == itself)
+        };
+        let kinds = [
+            (0..cells).any(|x| silent(&x)),
+            has(true, true, true),
+            has(true, true, false),
+            has(true, false, false),
+            has(false, true, false),
+        ];
+        for (count, is) in self.kinds.iter_mut().zip(kinds) {
+            *count += is as usize;
+        }
+    }
+
+    pub fn count_two(&mut self, left: &Book, right: &Book, hidden: Hidden) {
+        self.count(left, hidden.left);
+        self.count(right, hidden.right);
+        let part = |book: &Book, word: u64| match word.count_ones() as usize {
+            0 => 0,
+            many => 1 + (many == book.cells()) as usize,
+        };
+        self.both[part(left, hidden.left)][part(right, hidden.right)] += 1;
+    }
+
+    /// Prints the counts, and ends the test where so many hidden cells are less than a hundredth of all books, a kind of hidden cells less than a
+    /// fortieth, or something hidden of two books less than a thousandth of all calls with two.
+    pub fn report(&self, operation: &str) {
+        let cells: Vec<_> = HIDDEN_CELLS.iter().zip(self.cells).collect();
+        let kinds: Vec<_> = HIDDEN_KINDS.iter().zip(self.kinds).collect();
+        println!(
+            "{operation}, {} books by hidden cells: {cells:?}",
+            self.books
+        );
+        println!("  with some that are: {kinds:?}");
+        let two: usize = self.both.iter().flatten().sum();
+        if two > 0 {
+            println!("  {two} calls by nothing, some or all hidden of the left and of the right book: {:?}", self.both);
+        }
+        let rare = self.cells.iter().any(|times| times * 100 < self.books)
+            || self.kinds.iter().any(|times| times * 40 < self.books)
+            || self.both.iter().flatten().any(|times| times * 1000 < two);
+        if rare {
+            println!("{operation}: some hidden cells were seen too seldom");
             std::process::exit(1);
         }
     }

@@ -3,6 +3,7 @@
 
 use super::books::{Book, Link};
 use super::first_reason::{Reason, Side, View};
+use super::hidden::{whole_map, Shown};
 use super::outcome::{accepted, Outcome};
 use super::recordings::Comparison;
 use super::sheets::{step, Entry, Sheet, Step};
@@ -160,6 +161,14 @@ pub fn compared(left: &Book, right: &Book, c: usize, sides: Sides, version: u8) 
 }
 
 impl Compared {
+    /// The same, of books of which these are shown.
+    pub fn of_whole(self, left: &Shown, right: &Shown) -> Compared {
+        Compared {
+            map: whole_map(left, right, &self.map),
+            ..self
+        }
+    }
+
     /// In what the library left something else, if it did.
     pub fn difference(&self, answer: Outcome, map: &[u16], room: &[u8]) -> Option<String> {
         if let Some(place) = (0..self.map.len()).find(|&place| map[place] != self.map[place]) {

@@ -1,5 +1,6 @@
 //! The library's functions for C (include/cuhnavel.h), as safe functions.
 
+use super::hidden::Hidden;
 use super::outcome::Outcome;
 use super::sides::Sides;
 use super::versions::step_width;
@@ -10,6 +11,7 @@ extern "C" {
     fn cuhnavel_truth(
         book: *const u8,
         book_len: usize,
+        hidden: u64,
         sheet: *const u8,
         sheet_len: usize,
         words: *mut u64,
@@ -20,6 +22,8 @@ extern "C" {
         left_len: usize,
         right: *const u8,
         right_len: usize,
+        left_hidden: u64,
+        right_hidden: u64,
         sheet: *const u8,
         sheet_len: usize,
         entry: usize,
@@ -44,6 +48,8 @@ extern "C" {
         right: *const u8,
         right_len: usize,
         bound: usize,
+        left_hidden: u64,
+        right_hidden: u64,
         map: *mut u16,
         map_len: usize,
         room: *mut u8,
@@ -57,6 +63,8 @@ extern "C" {
         right: *const u8,
         right_len: usize,
         bound: usize,
+        left_hidden: u64,
+        right_hidden: u64,
         map: *mut u16,
         map_len: usize,
         room: *mut u8,
@@ -84,12 +92,13 @@ pub fn check_sheet(bytes: &[u8]) -> Outcome {
     Outcome::of_number(unsafe { cuhnavel_check_sheet(bytes.as_ptr(), bytes.len()) })
 }
 
-/// Truth.
-pub fn truth(book: &[u8], sheet: &[u8], words: &mut [u64]) -> Outcome {
+/// Truth of a book of which a word hides some cells.
+pub fn truth(book: &[u8], hidden: u64, sheet: &[u8], words: &mut [u64]) -> Outcome {
     Outcome::of_number(unsafe {
         cuhnavel_truth(
             book.as_ptr(),
             book.len(),
+            hidden,
             sheet.as_ptr(),
             sheet.len(),
             words.as_mut_ptr(),
@@ -102,6 +111,7 @@ pub fn truth(book: &[u8], sheet: &[u8], words: &mut [u64]) -> Outcome {
 pub fn claim(
     left: &[u8],
     right: &[u8],
+    hidden: Hidden,
     sheet: &[u8],
     entry: usize,
     left_cell: usize,
@@ -114,6 +124,8 @@ pub fn claim(
             left.len(),
             right.as_ptr(),
             right.len(),
+            hidden.left,
+            hidden.right,
             sheet.as_ptr(),
             sheet.len(),
             entry,
@@ -160,6 +172,7 @@ pub fn compare(
     left: &[u8],
     right: &[u8],
     bound: usize,
+    hidden: Hidden,
     map: &mut [u16],
     room: &mut [u8],
     scratch: &mut [u8],
@@ -175,6 +188,8 @@ pub fn compare(
             right.as_ptr(),
             right.len(),
             bound,
+            hidden.left,
+            hidden.right,
             map.as_mut_ptr(),
             map.len(),
             room.as_mut_ptr(),

@@ -8,6 +8,7 @@ pub mod checks;
 pub mod counts;
 pub mod described;
 pub mod first_reason;
+pub mod hidden;
 pub mod lent;
 pub mod library;
 pub mod loops;

@@ -8,7 +8,7 @@ use mir.Syntax.{w8}
 use mir.Val.{Fits}
 use lib.ListN.{length, getD}
 use Rattle.fields.specs.Fields.{Bytes}
-use Rattle.sheet.specs.Sheet.{countOf, entryStart, sheetRefusal, sheetAnswer}
+use Rattle.sheet.specs.Sheet.{hiddenPlace, countOf, entryStart, sheetRefusal, sheetAnswer}
 use Rattle.sheet.specs.AcceptedLaws.{answer-accepting, answer-refusing}
 use Rattle.sheet.specs.declared.Question.{Question}
 use Rattle.sheet.specs.declared.SheetAnswer.{SheetAnswer}
@@ -16,7 +16,7 @@ use Rattle.sheet.specs.declared.SheetAnswer.the-variants as sheet
 use Rattle.answers.specs.Pair.{placeOf, questionAnswer, placeAnswer, pairAnswer}
 use Rattle.answers.specs.PairLaws.{pair-given, pair-fetched, fetched-small}
 use Rattle.answers.specs.declared.PairAnswer.{PairAnswer}
-use Rattle.answers.specs.declared.PairAnswer.the-variants.{Matched, Parted, SheetRefused, Refused}
+use Rattle.answers.specs.declared.PairAnswer.the-variants.{Matched, Hidden, Parted, SheetRefused, Refused}
 use Rattle.answers.specs.declared.Place.{Place}
 use Rattle.answers.specs.declared.Place.the-variants as says
 
@@ -26,9 +26,14 @@ module _ (number : ℕ) where
   unfolding placeOf
   place-matched z = simp (eq-eqb number 0 z)
 
-  pub place-parted : (number ≡ 0 → ⊥) → says.Parted (record { 0 = number }) ≡ placeOf number
-  unfolding placeOf
-  place-parted f = simp (ne-eqb number 0 f)
+  module _ (f : number ≡ 0 → ⊥) where
+    pub place-hidden : number ≡ hiddenPlace → says.Hidden ≡ placeOf number
+    unfolding placeOf
+    place-hidden e = simp (ne-eqb number 0 f, eq-eqb number hiddenPlace e)
+
+    pub place-parted : (number ≡ hiddenPlace → ⊥) → says.Parted (record { 0 = number }) ≡ placeOf number
+    unfolding placeOf
+    place-parted g = simp (ne-eqb number 0 f, ne-eqb number hiddenPlace g)
 
 -- ---- Pair, of an accepted sheet
 module _ (map : List ℕ) (place : ℕ) (s : List ℕ) (good : sheetRefusal s ≡ 0) where
@@ -44,6 +49,10 @@ module _ (map : List ℕ) (place : ℕ) (s : List ℕ) (good : sheetRefusal s �
     pub pair-matched : said ≡ says.Matched → Matched ≡ pairAnswer map place s
     unfolding placeAnswer
     pair-matched e = pair-says says.Matched e refl
+
+    pub pair-hidden : said ≡ says.Hidden → Hidden ≡ pairAnswer map place s
+    unfolding placeAnswer
+    pair-hidden e = pair-says says.Hidden e refl
 
     module _ (question : Question) (e : said ≡ says.Parted question) (q : ℕ) (dq : q ≡ countOf s) where
       pub pair-unknown : q ≤ question .0 → Refused 25 ≡ pairAnswer map place s

@@ -11,12 +11,12 @@ use lib.ListN.{length, getD}
 use Rattle.fields.specs.Fields.{Bytes}
 use Rattle.sheet.specs.Entry.{truth}
 use Rattle.sheet.specs.PassedLaws.{accepted-head}
-use Rattle.sheet.specs.Sheet.{countOf, headSize, nextAt, startFrom, entriesOf, entryAt, entryStart, sheetRefusal}
+use Rattle.sheet.specs.Sheet.{hiddenPlace, countOf, headSize, nextAt, startFrom, entriesOf, entryAt, entryStart, sheetRefusal}
 use Rattle.sheet.specs.AcceptedLaws.{accepted-standing, entriesOf-at}
 use Rattle.sheet.specs.declared.Question.{Question}
 use Rattle.answers.specs.Pair.{placeOf, questionAnswer, placeAnswer, pairAnswer}
 use Rattle.answers.specs.declared.PairAnswer.{PairAnswer}
-use Rattle.answers.specs.declared.PairAnswer.the-variants.{Matched, Parted, SheetRefused, Refused}
+use Rattle.answers.specs.declared.PairAnswer.the-variants.{Matched, Hidden, Parted, SheetRefused, Refused}
 use Rattle.answers.specs.declared.Place.the-variants as says
 
 -- ---- where an entry starts
@@ -53,6 +53,7 @@ pub record Fetched (map : List ℕ) (place : ℕ) (s : List ℕ) (k start : ℕ)
 -- What each answer shows of the map and the sheet.
 unfoldable pub Shows : List ℕ → ℕ → List ℕ → PairAnswer → Type 0
 Shows map place s Matched = Given map place s × (getD map place 0 ≡ 0)
+Shows map place s Hidden = Given map place s × (getD map place 0 ≡ hiddenPlace)
 Shows map place s (Parted question start) = Fetched map place s (question .0) start
 Shows map place s (SheetRefused r) = (r ≡ sheetRefusal s) × (r ≡ 0 → ⊥)
 Shows map place s (Refused r) =
@@ -82,12 +83,13 @@ module _ (map : List ℕ) (place : ℕ) (s : List ℕ) where
 
     place-shows : Shows map place s (placeAnswer s (placeOf (getD map place 0)))
     unfolding Shows placeAnswer placeOf
-    place-shows = go (eqb (getD map place 0) 0) refl
+    place-shows = go (eqb (getD map place 0) 0) refl (eqb (getD map place 0) hiddenPlace) refl
       where
-        go : (b : Bool) → eqb (getD map place 0) 0 ≡ b
-            → Shows map place s (placeAnswer s (cond b says.Matched (says.Parted (record { 0 = getD map place 0 }))))
-        go true e = (g, eqb-true _ _ e)
-        go false e = question-shows (record { 0 = getD map place 0 }) refl (eqb-false _ _ e)
+        go : (b : Bool) → eqb (getD map place 0) 0 ≡ b → (c : Bool) → eqb (getD map place 0) hiddenPlace ≡ c
+            → Shows map place s (placeAnswer s (cond b says.Matched (cond c says.Hidden (says.Parted (record { 0 = getD map place 0 })))))
+        go true e c f = (g, eqb-true _ _ e)
+        go false e true f = (g, eqb-true _ _ f)
+        go false e false f = question-shows (record { 0 = getD map place 0 }) refl (eqb-false _ _ e)
 
   pub pair-shows : Shows map place s (pairAnswer map place s)
   unfolding Shows pairAnswer

@@ -87,9 +87,11 @@ pub fn row_word(map: &[u16], m: usize, i: usize) -> u64
     }
 }
 
-// What Pair answers: matched; parted, by the question of that number, whose entry starts at that byte of the sheet; or a refusal.
+// What Pair answers: matched; hidden, where a cell of the pair is; parted, by the question of that number, whose entry starts at that byte of the sheet; or a
+// refusal.
 pub enum PairAnswer {
     Matched,
+    Hidden,
     Parted { question: Question, start: usize },
     SheetRefused(u8),
     Refused(u8),
@@ -98,10 +100,11 @@ pub enum PairAnswer {
 // What a place of a map says of its pair. Pair takes it apart before it reads the question's entry.
 enum Place {
     Matched,
+    Hidden,
     Parted(Question),
 }
 
-// What the number at a place of the map says: matched at 0, else parted, by the question of that number.
+// What the number at a place of the map says: matched at 0, hidden at 65,535, else parted, by the question of that number.
 fn place_of(map: &[u16], place: usize) -> Place
     requires { ⌜ place < length (now map) ⌝ }
     ensures { λ r. ⌜ r ≡ placeOf (getD (now (map .entry)) place 0) ⌝ }
@@ -109,6 +112,9 @@ fn place_of(map: &[u16], place: usize) -> Place
     let number = map[place];
     if number == 0 {
         return Place::Matched;
+    }
+    if number == sheet::HIDDEN_PLACE {
+        return Place::Hidden;
     }
     Place::Parted(Question(number))
 }
@@ -122,19 +128,22 @@ fn pair_of(map: &[u16], place: usize, bytes: &[u8], q: u16) -> PairAnswer
         return PairAnswer::Refused(26);
     }
     let said = place_of(map, place);
-    let Place::Parted(question) = said else {
-        return PairAnswer::Matched;
-    };
-    let number = question.0;
-    if q <= number {
-        return PairAnswer::Refused(25);
+    match said {
+        Place::Matched => PairAnswer::Matched,
+        Place::Hidden => PairAnswer::Hidden,
+        Place::Parted(question) => {
+            let number = question.0;
+            if q <= number {
+                return PairAnswer::Refused(25);
+            }
+            let start = sheet::entry_start(bytes, question);
+            PairAnswer::Parted { question, start }
+        }
     }
-    let start = sheet::entry_start(bytes, question);
-    PairAnswer::Parted { question, start }
 }
 
-// Pair: whether the pair at a place of the map is matched, else the question that parts it and the byte of the sheet where its entry
-// starts. Refused: the sheet's own refusal, also where the pair is matched; 26 where the place is outside the map; 25 where the number
+// Pair: whether the pair at a place of the map is matched, or has a hidden cell, else the question that parts it and the byte of the sheet where its
+// entry starts. Refused: the sheet's own refusal, also where the pair is matched; 26 where the place is outside the map; 25 where the number
 // at the place is not that of an entry.
 pub fn pair(map: &[u16], place: usize, bytes: &[u8]) -> PairAnswer
     ensures { λ r. ⌜ r ≡ pairAnswer (now (map .entry)) place (now (bytes .entry)) ⌝ }
@@ -146,13 +155,15 @@ pub fn pair(map: &[u16], place: usize, bytes: &[u8]) -> PairAnswer
     }
 }
 
-// The answer of `pair` as one number: the refusal + 2^8 × part (3 where it is the sheet's), or 2^16 × the question + 2^40 × the byte.
+// The answer of `pair` as one number: the refusal + 2^8 × part (3 where it is the sheet's), or 2^16 × the question + 2^40 × the byte, the question being
+// 65,535 where a cell is hidden.
 pub fn pair_code(map: &[u16], place: usize, bytes: &[u8]) -> u64
     ensures { λ r. ⌜ r ≡ code (pairOutcome (pairAnswer (now (map .entry)) place (now (bytes .entry)))) ⌝ }
 {
     let answer = pair(map, place, bytes);
     match answer {
         PairAnswer::Matched => outcome::code(0, outcome::OF_CALL, 0, 0),
+        PairAnswer::Hidden => outcome::code(0, outcome::OF_CALL, sheet::HIDDEN_PLACE as u32, 0),
         PairAnswer::Parted { question, start } => {
             outcome::code(0, outcome::OF_CALL, question.0 as u32, start as u32)
         }

@@ -4,22 +4,26 @@ use mathlib.Core.Path.{_≡_, refl, sym, ap, _∙_}
 use mathlib.Core.Bool.{Bool, true, false, not, So, cond, _&&_, _||_}
 use mathlib.Core.List.{List, []}
 use mathlib.Core.Logic.{⊎-elim}
-use Prim.Native.Nat.{ℕ, zero, suc, _+_, _-_, _*_, _≤_, _<_}
+use Prim.Native.Nat.{ℕ, zero, suc, _+_, _-_, _*_, _^_, _≤_, _<_}
 use native.Mathlib.Nat.{mul-le-mul-left, mul-le-mul-right, eq-or-lt-of-le}
 use native.Mathlib.Numerals.{add-one}
 use native.Mathlib.Omega.{arith}
-use borrow.Author.Tests.{lt-ltb, le-ltb, le-leb, lt-leb, eq-eqb, ne-eqb, not-false, not-true}
+use borrow.Author.Tests.{lt-ltb, le-ltb, ltb-true, le-leb, lt-leb, leb-true, eq-eqb, ne-eqb, not-false, not-true}
 use lib.Dec.{eqb, ltb}
 use lib.ListN.{length, take, drop}
+use lib.Pow.{pow-pos}
+use mir.Syntax.{w8}
+use mir.Val.{Fits}
 use Rattle.fields.specs.Fields.{field}
 use Rattle.fields.specs.Label.{labelWidth}
 use Rattle.outcome.specs.Outcome.{accepted, refused, code, ofLeftBook, ofCall}
+use Rattle.theory.specs.TestLaws.{test-eq}
 use Rattle.theory.specs.Graph.{Comparison, same, differ, compared, link}
-use Rattle.book.specs.BookGraph.{dataValue, heard, passes}
+use Rattle.book.specs.BookGraph.{dataValue, heard, passes, hides, hidesBeyond, seenRecording}
 use Rattle.outcome.specs.Refusals.{firstOf}
 use Rattle.outcome.specs.RefusalLaws.{first-none, first-some}
-use Rattle.book.specs.Book.{lengthOf, versionOf, mostVersion, cellsOf, linksOf, recordingPlace, linkWidth, linkStart, linkPlace, linkIn, linkAt, countsRefusal, headRefusal, below, precedes, rises, linkRefusal, linksRefusal, bookRefusal, bookAnswer, bookOutcome, asLink}
-use Rattle.book.specs.AcceptedLaws.{headed, start-most, link-room, book-sizes, book-long, answer-accepted, answer-refused}
+use Rattle.book.specs.Book.{lengthOf, versionOf, mostVersion, cellsOf, linksOf, recordingPlace, recordingAt, linkWidth, linkStart, linkPlace, linkIn, linkAt, countsRefusal, headRefusal, below, precedes, rises, linkRefusal, linksRefusal, bookRefusal, bookAnswer, bookOutcome, asLink}
+use Rattle.book.specs.AcceptedLaws.{headed, start-most, link-room, book-sizes, book-long, cell-few, answer-accepted, answer-refused}
 use Rattle.book.specs.OutgoingLaws.{before-is, first-before, first-rises, part-accepted, part-room}
 use Rattle.book.specs.BookLinks.{linksBefore, linksAfter, firstLink, RangeOut, partFrom, linksAnswer, partOf, linksPart, linksOutcome}
 use Rattle.book.specs.declared.BookAnswer.{BookAnswer}
@@ -254,6 +258,30 @@ cell-test s n x d = rw d
 
 pub recording-room : (s : List ℕ) (x : ℕ) → bookRefusal s ≡ 0 → x < cellsOf s → recordingPlace (x + 1) ≤ length s
 recording-room s x z h = omega (arith, book-sizes s z .sized)
+
+-- ---- what is hidden
+pub cell-fits : (s : List ℕ) (x : ℕ) → bookRefusal s ≡ 0 → x < cellsOf s → Fits w8 x
+cell-fits s x z h = record { fits = omega (arith, cell-few s x z h) }
+
+pub cells-few : (s : List ℕ) (n : ℕ) → bookRefusal s ≡ 0 → n ≡ cellsOf s → n ≤ 64
+cells-few s n z d = omega (arith, book-sizes s z .few)
+
+-- a word above that of the n lowest cells has another one
+pub beyond : (s : List ℕ) (h n full : ℕ) → n ≡ cellsOf s → full ≡ 2 ^ n - 1 → ltb full h ≡ hidesBeyond h s
+unfolding hidesBeyond
+beyond s h n full d e =
+    let p = pow-pos n in
+    rw (← d)
+    (test-eq _ _ (λ o. le-leb (2 ^ n) h (let l = ltb-true full h o in omega arith)) (λ o. lt-ltb full h (let l = leb-true (2 ^ n) h o in omega arith)))
+
+module _ (s : List ℕ) (h x : ℕ) (b : Bool) (d : b ≡ hides h x) where
+  pub seen-silent : b ≡ true → 0 ≡ seenRecording h s x
+  unfolding seenRecording
+  seen-silent e = rw (← d, e)
+
+  pub seen-as-is : b ≡ false → (r : ℕ) → r ≡ recordingAt s x → r ≡ seenRecording h s x
+  unfolding seenRecording
+  seen-as-is e r f = rw (← d, e) f
 
 -- ---- the first link out of a cell
 -- the first k links are out of cells below x

@@ -13,9 +13,9 @@ use Rattle.fields.specs.LabelLaws.{label-width}
 use Rattle.outcome.specs.RefusalLaws.{first-zero, passed}
 use Rattle.theory.specs.TestLaws.{and-iff, or-iff, sum-iff, eqb-iff, ltb-iff, list-at}
 use Rattle.theory.specs.Search.{list}
-use Rattle.theory.specs.Graph.{Comparison, Link, Inside, WellFormed}
+use Rattle.theory.specs.Graph.{Comparison, Link, Inside}
 use Rattle.book.specs.Book.{lengthOf, versionOf, mostVersion, cellsOf, linksOf, recordingAt, linkWidth, linkStart, linkPlace, linkAt, countsRefusal, headRefusal, below, precedes, rises, linkRefusal, linksRefusal, bookRefusal, bookAnswer}
-use Rattle.book.specs.BookGraph.{passes, bookRecordings, graphOf}
+use Rattle.book.specs.BookGraph.{passes, bookRecordings, bookLinks, graphOf}
 use Rattle.book.specs.declared.BookAnswer.the-variants.{Accepted, Refused}
 
 not-false : (t : Bool) → not t ≡ false → So t
@@ -200,9 +200,8 @@ inside-list n zero f h = tt
 inside-list n (suc m) f h =
     (h 0 (omega arith) .0, h 0 (omega arith) .1, inside-list n m (λ i. f (suc i)) (λ i l. h (suc i) (suc-le-suc l)))
 
-pub book-graph : (s : List ℕ) → bookRefusal s ≡ 0 → WellFormed (graphOf s)
-book-graph s r =
-    record { inside = inside-list _ _ _ (λ k h. let b = book-link s r k h in (b .from, b .to)) }
+pub book-inside : (s : List ℕ) → bookRefusal s ≡ 0 → Inside (cellsOf s) (bookLinks s)
+book-inside s r = inside-list _ _ _ (λ k h. let b = book-link s r k h in (b .from, b .to))
 
 -- each cell has its recording
 book-recording : (s : List ℕ) (x : ℕ) → x < cellsOf s → getD (bookRecordings s) x 0 ≡ recordingAt s x

@@ -8,8 +8,9 @@ use Rattle.fields.specs.Label.{labelWidth}
 use Rattle.outcome.specs.Outcome.{Outcome, accepted, refused, ofCall, ofLeftBook}
 use Rattle.theory.specs.Search.{list}
 use Rattle.theory.specs.Graph.{link}
+use Rattle.words.specs.Words.{bit}
 use Rattle.book.specs.Book.{recordingAt, linkIn, linkAt, countsRefusal, headRefusal, below, precedes, rises, linkRefusal, linksRefusal, bookRefusal, bookAnswer, bookOutcome}
-use Rattle.book.specs.BookGraph.{graphOf}
+use Rattle.book.specs.BookGraph.{graphOf, clear, kept, seenRecording, seenRecordings, seenOf}
 use Rattle.book.specs.Widened.{wideFront, wideLinks, widened}
 use Rattle.book.specs.BookLinks.{linksBefore, firstLink, partFrom, linksAnswer, partOf, linksPart, linksOutcome}
 
@@ -84,6 +85,11 @@ leftBook-graph = (refl, refl, refl)
 pub rightBook-graph : (graphOf rightBook .size ≡ 2) × (graphOf rightBook .links ≡ link 0 1 1 ∷ []) × (list 2 (recordingAt rightBook) ≡ 5 ∷ 5 ∷ [])
 unfolding rightBook linkAt linkIn labelWidth recordingAt field list
 rightBook-graph = (refl, refl, refl)
+
+-- What is seen of A's left book where cell 1 is hidden: its recording and the link to it are not.
+pub leftBook-seen : (seenOf 2 leftBook .size ≡ 3) × (seenOf 2 leftBook .links ≡ link 0 1 2 ∷ []) × (seenRecordings 2 leftBook ≡ 5 ∷ 0 ∷ 6 ∷ [])
+unfolding leftBook clear kept seenRecording bit linkAt linkIn labelWidth recordingAt field list
+leftBook-seen = (refl, refl, refl)
 
 -- The part that holds the links of A's left cell 0.
 pub leftBook-part : linksPart leftBook 0 ≡ 0 ∷ 1 ∷ 1 ∷ 0 ∷ 1 ∷ 2 ∷ []

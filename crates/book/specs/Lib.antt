@@ -4,6 +4,8 @@ pub mod BookLinks
 pub mod Contents
 pub mod AcceptedLaws
 pub mod OutgoingLaws
+pub mod RisingLaws
+pub mod SeenLaws
 pub mod VersionLaws
 pub mod Widened
 pub mod WidenedLaws

@@ -1,5 +1,5 @@
 -- Books of different versions (02, 2026-02): how large a label is, and that a book's graph does not tell its version.
-use mathlib.Core.Bool.{not, cond, _||_}
+use mathlib.Core.Bool.{true, not, cond, _||_}
 use mathlib.Core.List.{List}
 use mathlib.Core.Path.{_≡_, refl, sym, ap, ap₂, _∙_}
 use Prim.Native.Nat.{ℕ, zero, suc, _+_, _^_, _≤_, _<_}
@@ -14,7 +14,7 @@ use Rattle.outcome.specs.RefusalLaws.{first-none}
 use Rattle.theory.specs.Search.{list}
 use Rattle.theory.specs.TestLaws.{list-ext}
 use Rattle.book.specs.Book.{versionOf, cellsOf, linksOf, recordingAt, linkPlace, linkIn, linkAt, headRefusal, precedes, rises, linkRefusal, linksRefusal, bookRefusal}
-use Rattle.book.specs.BookGraph.{passes, bookRecordings, bookLinks, graphOf}
+use Rattle.book.specs.BookGraph.{passes, bookLinks, graphOf, hides, showing, clear, kept, seenRecording, seenOf}
 use Rattle.book.specs.Contents.{SameContents}
 use Rattle.book.specs.AcceptedLaws.{Headed, headed-passes, accepted-links}
 
@@ -23,16 +23,29 @@ pub label-fits : (s : List ℕ) → Bytes s → (k : ℕ) → linkAt s k .label 
 unfolding linkAt linkIn
 label-fits s b k = field-lt (labelWidth (versionOf s)) s (linkPlace s k + 1) b
 
--- "Version 1 is still read, its labels as the same numbers": such books are one graph
-pub same-graph : (s t : List ℕ) → SameContents s t → graphOf s ≡ graphOf t
-same-graph s t d =
-    λ i. record { size = d .cells i; links = links i; ends = λ k x y. passes k (getD (recordings i) x 0) (getD (recordings i) y 0) }
-  where
-    recordings : bookRecordings s ≡ bookRecordings t
-    recordings = list-ext (cellsOf s) (recordingAt s) (recordingAt t) (d .recordings) ∙ ap (λ n. list n (recordingAt t)) (d .cells)
+-- "Version 1 is still read, its labels as the same numbers": such books are one graph, whatever is hidden of both
+module _ (s t : List ℕ) (d : SameContents s t) where
+  same-recordings : (f : ℕ → ℕ → ℕ) → list (cellsOf s) (λ x. f x (recordingAt s x)) ≡ list (cellsOf t) (λ x. f x (recordingAt t x))
+  same-recordings f = list-ext (cellsOf s) _ _ (λ x l. ap (f x) (d .recordings x l)) ∙ ap (λ n. list n (λ x. f x (recordingAt t x))) (d .cells)
 
-    links : bookLinks s ≡ bookLinks t
-    links = list-ext (linksOf s) (linkAt s) (linkAt t) (d .each) ∙ ap (λ e. list e (linkAt t)) (d .links)
+  same-links : bookLinks s ≡ bookLinks t
+  same-links = list-ext (linksOf s) (linkAt s) (linkAt t) (d .each) ∙ ap (λ e. list e (linkAt t)) (d .links)
+
+  pub same-graph : graphOf s ≡ graphOf t
+  same-graph =
+      let values = same-recordings (λ x v. v) in
+      λ i. record { size = d .cells i; shown = λ x. true; links = same-links i; ends = λ k x y. passes k (getD (values i) x 0) (getD (values i) y 0) }
+
+  pub same-seen : (h : ℕ) → seenOf h s ≡ seenOf h t
+  unfolding seenRecording
+  same-seen h =
+      let values = same-recordings (λ x v. cond (hides h x) 0 v) in
+      λ i. record {
+        size = d .cells i;
+        shown = showing h;
+        links = kept (clear h) (same-links i);
+        ends = λ k x y. passes k (getD (values i) x 0) (getD (values i) y 0);
+      }
 
 -- and are refused alike for their links, so that one is accepted where the other is and its own header is not refused
 module _ (s t : List ℕ) (d : SameContents s t) where

@@ -7,7 +7,7 @@ ghost use lib.ListN.{length};
 ghost use Rattle.theory.specs.Graph.{same, differ};
 ghost use Rattle.outcome.specs.Outcome.{code};
 ghost use Rattle.book.specs.Book.{versionOf, cellsOf, linksOf, recordingPlace, recordingAt, linkWidth, linkStart, linkPlace, linkAt, countsRefusal, headRefusal, precedes, linkRefusal, linksRefusal, bookRefusal, bookAnswer, bookOutcome, asLink};
-ghost use Rattle.book.specs.BookGraph.{heard, passes};
+ghost use Rattle.book.specs.BookGraph.{heard, passes, hidesBeyond, seenRecording};
 ghost use Rattle.book.specs.BookLinks.{linksBefore, linksAfter, firstLink, RangeOut, partFrom, linksAnswer, linksPart, linksOutcome};
 
 // A cell of the left book.
@@ -30,6 +30,12 @@ pub struct BookLink {
 pub struct LinkRange {
     pub first: usize,
     pub end: usize,
+}
+
+// Which cells are hidden, of a left and of a right book: bit i of a word hides cell i.
+pub struct Hidden {
+    pub left: u64,
+    pub right: u64,
 }
 
 // What the check of a book answers: its counts, or 01's refusal.
@@ -275,6 +281,25 @@ pub fn recording_of(bytes: &[u8], cell: usize) -> Recording
     ensures { λ r. ⌜ r .0 ≡ recordingAt (now (bytes .entry)) cell ⌝ }
 {
     recording_at(bytes, cell)
+}
+
+// Whether the word hides what is no cell of an accepted book: it has a bit at or above the number of cells (31).
+pub fn hides_beyond(bytes: &[u8], hidden: u64) -> bool
+    requires { ⌜ bookRefusal (now bytes) ≡ 0 ⌝ }
+    ensures { λ r. ⌜ r ≡ hidesBeyond hidden (now (bytes .entry)) ⌝ }
+{
+    words::full(cells_of(bytes) as u8) < hidden
+}
+
+// The recording of a cell as it is seen: silent where the word hides the cell.
+pub fn recording_seen(bytes: &[u8], hidden: u64, cell: usize) -> Recording
+    requires { ⌜ (bookRefusal (now bytes) ≡ 0) × (cell < cellsOf (now bytes)) ⌝ }
+    ensures { λ r. ⌜ r .0 ≡ seenRecording hidden (now (bytes .entry)) cell ⌝ }
+{
+    if words::has(hidden, cell as u8) {
+        return Recording(0);
+    }
+    recording_of(bytes, cell)
 }
 
 // Whether both recordings have a sound: recording 0 is silent. Nothing else asks whether one is.

@@ -2,6 +2,7 @@
 ghost use mathlib.Core.Path.{_≡_};
 ghost use Rattle.outcome.specs.Outcome.{code};
 ghost use Rattle.book.specs.Book.{bookAnswer, bookOutcome};
+ghost use Rattle.book.specs.BookGraph.{hiding};
 ghost use Rattle.book.specs.BookLinks.{linksAnswer, linksOutcome};
 ghost use Rattle.sheet.specs.Sheet.{sheetAnswer, sheetOutcome};
 ghost use Rattle.truth.specs.Truth.{IsTruthCode, IsClaimCode};
@@ -9,6 +10,7 @@ ghost use Rattle.theory.specs.Bisimulation.{oneSided, twoSided};
 ghost use Rattle.compare.specs.Compare.{lent, IsCompareCode};
 ghost use Rattle.answers.specs.Row.{rowAnswer, rowOutcome, wordIn};
 ghost use Rattle.answers.specs.Pair.{pairAnswer, pairOutcome};
+use book::Hidden;
 ghost use Rattle.question_text.specs.Answer.{lengthAnswer, textOutcome, IsWriteCode};
 
 // Check a book: its cells and links, or the first refusal of 1 to 7 that applies, of the only book.
@@ -29,19 +31,26 @@ pub extern "C" fn cuhnavel_check_sheet(bytes: &[u8]) -> u64
 
 // Compare: place i × m + j of the map becomes 0 where left cell i and right cell j of m are matched, else the number of a question that parts them;
 // the room starts with the sheet of these questions, and the scratch becomes zeros. The values are the sheet's length and the number of matched
-// pairs. Refused, all lists being as before: 20, the refusal of the left book, of the right, 21, 22 or 23.
+// pairs. A cell whose bit a word has set is hidden: it and its links count as absent, and its places of the map become 65,535. Refused, all lists being as before:
+// 20, the refusal of the left book, of the right, 31 of the left or of the right where its word hides a cell that it has not, 21, 22 or 23.
 #[no_mangle]
 pub extern "C" fn cuhnavel_compare(
     left: &[u8],
     right: &[u8],
     bound: usize,
+    left_hidden: u64,
+    right_hidden: u64,
     map: &mut [u16],
     room: &mut [u8],
     scratch: &mut [u8],
 ) -> u64
-    ensures { λ r. ⌜ IsCompareCode twoSided (now (left .entry)) (now (right .entry)) bound (lent (now (map .entry)) (now (room .entry)) (now (scratch .entry))) r (lent (now (map .exit)) (now (room .exit)) (now (scratch .exit))) ⌝ }
+    ensures { λ r. ⌜ IsCompareCode twoSided (now (left .entry)) (now (right .entry)) bound (hiding «left_hidden» «right_hidden») (lent (now (map .entry)) (now (room .entry)) (now (scratch .entry))) r (lent (now (map .exit)) (now (room .exit)) (now (scratch .exit))) ⌝ }
 {
-    compare::compare_code(left, right, bound, true, map, room, scratch)
+    let hidden = Hidden {
+        left: left_hidden,
+        right: right_hidden,
+    };
+    compare::compare_code(left, right, bound, hidden, true, map, room, scratch)
 }
 
 // Compare one-way: as Compare, with the clauses from left to right only. Place i × m + j of the map becomes 0 where right cell j covers left cell i, else the
@@ -51,39 +60,52 @@ pub extern "C" fn cuhnavel_compare_one_way(
     left: &[u8],
     right: &[u8],
     bound: usize,
+    left_hidden: u64,
+    right_hidden: u64,
     map: &mut [u16],
     room: &mut [u8],
     scratch: &mut [u8],
 ) -> u64
-    ensures { λ r. ⌜ IsCompareCode oneSided (now (left .entry)) (now (right .entry)) bound (lent (now (map .entry)) (now (room .entry)) (now (scratch .entry))) r (lent (now (map .exit)) (now (room .exit)) (now (scratch .exit))) ⌝ }
+    ensures { λ r. ⌜ IsCompareCode oneSided (now (left .entry)) (now (right .entry)) bound (hiding «left_hidden» «right_hidden») (lent (now (map .entry)) (now (room .entry)) (now (scratch .entry))) r (lent (now (map .exit)) (now (room .exit)) (now (scratch .exit))) ⌝ }
 {
-    compare::compare_code(left, right, bound, false, map, room, scratch)
+    let hidden = Hidden {
+        left: left_hidden,
+        right: right_hidden,
+    };
+    compare::compare_code(left, right, bound, hidden, false, map, room, scratch)
 }
 
 // Truth: for each entry of the sheet the word of the book's cells where it is true; the other words, and on a refusal all, are as
-// before. Refused: the refusal of the only book, of the sheet, or 24.
+// before. A cell whose bit is set in `hidden` counts as absent, and no word has it. Refused: the refusal of the only book, 31 among them, of the sheet, or 24.
 #[no_mangle]
-pub extern "C" fn cuhnavel_truth(book: &[u8], sheet: &[u8], words: &mut [u64]) -> u64
-    ensures { λ r. ⌜ IsTruthCode (now (book .entry)) (now (sheet .entry)) (now (words .entry)) r (now (words .exit)) ⌝ }
+pub extern "C" fn cuhnavel_truth(book: &[u8], hidden: u64, sheet: &[u8], words: &mut [u64]) -> u64
+    ensures { λ r. ⌜ IsTruthCode (now (book .entry)) hidden (now (sheet .entry)) (now (words .entry)) r (now (words .exit)) ⌝ }
 {
-    truth::truth_code(book, sheet, words)
+    truth::truth_code(book, hidden, sheet, words)
 }
 
 // Claim: 1 where the entry is true at cell `cell` of the left book and false at cell `other` of the right, else 0; the words end as Truth of
-// the right book. Refused, the words being as before: the refusal of the left book, of the right, of the sheet, or 24, 25 or 26.
+// the right book. It is 0 where one of the cells is hidden. Refused, the words being as before: the refusal of the left book, of the right, 31 of either, of the
+// sheet, or 24, 25 or 26.
 #[no_mangle]
 pub extern "C" fn cuhnavel_claim(
     left: &[u8],
     right: &[u8],
+    left_hidden: u64,
+    right_hidden: u64,
     sheet: &[u8],
     entry: usize,
     cell: usize,
     other: usize,
     words: &mut [u64],
 ) -> u64
-    ensures { λ r. ⌜ IsClaimCode (now (left .entry)) (now (right .entry)) (now (sheet .entry)) entry cell other (now (words .entry)) r (now (words .exit)) ⌝ }
+    ensures { λ r. ⌜ IsClaimCode (now (left .entry)) (now (right .entry)) (hiding «left_hidden» «right_hidden») (now (sheet .entry)) entry cell other (now (words .entry)) r (now (words .exit)) ⌝ }
 {
-    truth::claim_code(left, right, sheet, entry, cell, other, words)
+    let hidden = Hidden {
+        left: left_hidden,
+        right: right_hidden,
+    };
+    truth::claim_code(left, right, hidden, sheet, entry, cell, other, words)
 }
 
 // Row: how many places of row i of the map, m places long, hold 0. Refused: 27 or 26.
@@ -102,7 +124,8 @@ pub extern "C" fn cuhnavel_row_word(map: &[u16], m: usize, i: usize) -> u64
     answers::row_word(map, m, i)
 }
 
-// Pair: the number of the question that parts the pair and the byte where its entry starts, 0 and 0 where the pair is matched. Refused: the
+// Pair: the number of the question that parts the pair and the byte where its entry starts, 0 and 0 where the pair is matched, 65,535 and 0 where a cell of it is
+// hidden. Refused: the
 // sheet's refusal, or 26 or 25.
 #[no_mangle]
 pub extern "C" fn cuhnavel_pair(map: &[u16], place: usize, sheet: &[u8]) -> u64

@@ -1,5 +1,5 @@
 -- What each way out of Compare shows of the definitions of `specs/`, in the form in which `search` finds it.
-use mathlib.Core.Bool.{Bool}
+use mathlib.Core.Bool.{Bool, true, false}
 use mathlib.Core.List.{List, _++_}
 use mathlib.Core.Path.{_≡_, refl, sym, ap, ap₂, _∙_}
 use Prim.Native.Nat.{ℕ, _+_, _*_, _^_, _≤_, _<_}
@@ -11,9 +11,11 @@ use lib.ListN.{length, getD, drop, replicate, take-append-drop}
 use lib.Seq.{sets}
 use Rattle.theory.specs.Bisimulation.{sidesOf}
 use Rattle.outcome.specs.Outcome.{code}
+use Rattle.book.specs.declared.Hidden.{Hidden}
 use Rattle.book.specs.Book.{cellsOf, bookRefusal}
+use Rattle.book.specs.BookGraph.{hidesBeyond}
 use Rattle.sheet.specs.Entry.{Entry}
-use Rattle.sheet.specs.Sheet.{headSize, mostBound, stepWidth}
+use Rattle.sheet.specs.Sheet.{mostBound, stepWidth}
 use Rattle.sheet.specs.Encoding.{header, sheetBytes}
 use Rattle.sheet.specs.WrittenLaws.{Writable, written-length}
 use Rattle.sheet_writer.specs.Writing.{Holding}
@@ -38,8 +40,8 @@ lists-ext p q r = λ i. record { map = p i; room = q i; scratch = r i }
 
 -- ---- the sheet, once its header is written
 
-module _ {both : Bool} {l r : List ℕ} {c : ℕ} {map : List ℕ} {room : List ℕ} (given : Lent l r c map room) {map′ filled : List ℕ} {pen : Pen}
-    (t : Fills both l r c room filled pen map′) where
+module _ {both : Bool} {l r : List ℕ} {c : ℕ} {hidden : Hidden} {map : List ℕ} {room : List ℕ} (given : Lent l r c hidden map room) {map′ filled : List ℕ} {pen : Pen}
+    (t : Fills both l r c hidden room filled pen map′) where
   entries : List Entry
   entries = t .finished .entries
 
@@ -47,7 +49,7 @@ module _ {both : Bool} {l r : List ℕ} {c : ℕ} {map : List ℕ} {room : List 
   unfolding entries
   held = rw (t .finished .version) at (t .finished .penned .held)
 
-  compared : Compared (settingOf (sidesOf both) l r c) entries map′
+  compared : Compared (settingOf (sidesOf both) l r c hidden) entries map′
   unfolding entries
   compared = t .finished .compared
 
@@ -66,11 +68,8 @@ module _ {both : Bool} {l r : List ℕ} {c : ℕ} {map : List ℕ} {room : List 
   pub count-narrow : (count : ℕ) → count ≡ zeros map′ → count < 2 ^ 32
   count-narrow count e = omega (arith, zeros-nonzeros map′, compared .size, pairs-most l r (given .leftAccepted) (given .rightAccepted))
 
-  pub header-room : headSize ≤ length filled
-  header-room = omega (arith, held .inside, held .place)
-
   -- what is defined is what is there
-  sheet-is : sheetBytes (sheetVersion l r) c entries ≡ comparedSheet (sidesOf both) l r c
+  sheet-is : sheetBytes (sheetVersion l r) c entries ≡ comparedSheet (sidesOf both) l r c hidden
   sheet-is = ap (sheetBytes (sheetVersion l r) c) (compared .entries)
 
   module _ {room′ : List ℕ} (w : room′ ≡ sets filled 0 (header (pen .version) (pen .at) c (pen .next))) where
@@ -79,7 +78,7 @@ module _ {both : Bool} {l r : List ℕ} {c : ℕ} {map : List ℕ} {room : List 
     headed = w ∙ ap₂ (λ v n. sets filled 0 (header v (pen .at) c n)) (t .finished .version) (t .finished .penned .number)
 
     -- the room starts with the sheet, and what follows it is as it was
-    room-is : room′ ≡ comparedSheet (sidesOf both) l r c ++ drop (length (comparedSheet (sidesOf both) l r c)) room
+    room-is : room′ ≡ comparedSheet (sidesOf both) l r c hidden ++ drop (length (comparedSheet (sidesOf both) l r c hidden)) room
     room-is =
         sym (take-append-drop (pen .at) room′)
         ∙ ap₂ _++_ (holding-sheet held c headed) (sheet-kept-after held c headed (pen .at) (omega (arith, held .place)) ∙ t .behind .kept (pen .at) (omega arith))
@@ -87,13 +86,15 @@ module _ {both : Bool} {l r : List ℕ} {c : ℕ} {map : List ℕ} {room : List 
 
     -- Compare has served the caller
     pub all-served : {scratch scratch′ : List ℕ} {count : ℕ} → scratchNeeded (pairsOf l r) ≤ length scratch → scratch′ ≡ replicate (length scratch) 0 → count ≡ zeros map′
-        → IsCompare (sidesOf both) l r c (lent map room scratch) (says.Compared (pen .at) count) (lent map′ room′ scratch′)
+        → IsCompare (sidesOf both) l r c hidden (lent map room scratch) (says.Compared (pen .at) count) (lent map′ room′ scratch′)
     unfolding leftBy
     all-served h z n =
-        let told = accepts-compared l r c (length map) (length room) _ (length (comparedSheet (sidesOf both) l r c)) (zeros (comparedMap (sidesOf both) l r c)) (record {
+        let told = accepts-compared l r c hidden (length map) (length room) _ (length (comparedSheet (sidesOf both) l r c hidden)) (zeros (comparedMap (sidesOf both) l r c hidden)) (record {
           bound = given .bound;
           left = given .leftAccepted;
           right = given .rightAccepted;
+          leftWord = given .leftWord;
+          rightWord = given .rightWord;
           map = given .places;
           roomy = given .roomy;
           spare = h;
@@ -116,10 +117,10 @@ module _ (l r : List ℕ) (n m : ℕ) (d : n ≡ cellsOf l) (e : m ≡ cellsOf r
     pub pairs-fit : n * m < 2 ^ 64
     pairs-fit = omega (arith, pairs-few)
 
-    pub all-lent : (c : ℕ) (map room : List ℕ) (v needed : ℕ) → v ≡ sheetVersion l r → needed ≡ roomNeeded v (n * m) → c ≤ mostBound → length map ≡ n * m → needed ≤ length room
-        → Lent l r c map room
-    all-lent c map room v needed dv k low places roomy =
-        record { leftAccepted = left; rightAccepted = right; bound = low; places = rw (d, e) at places; roomy = rw (k, dv, d, e) at roomy }
+    pub all-lent : (c : ℕ) (hidden : Hidden) → hidesBeyond (hidden .left) l ≡ false → hidesBeyond (hidden .right) r ≡ false → (map room : List ℕ) (v needed : ℕ) → v ≡ sheetVersion l r → needed ≡ roomNeeded v (n * m) → c ≤ mostBound → length map ≡ n * m → needed ≤ length room
+        → Lent l r c hidden map room
+    all-lent c hidden lw rw′ map room v needed dv k low places roomy =
+        record { leftAccepted = left; rightAccepted = right; leftWord = lw; rightWord = rw′; bound = low; places = rw (d, e) at places; roomy = rw (k, dv, d, e) at roomy }
 
 -- the room that is asked for
 module _ (v size pairs : ℕ) (d : size ≡ stepWidth v * 8) (h : pairs ≤ 4096) where
@@ -129,45 +130,67 @@ module _ (v size pairs : ℕ) (d : size ≡ stepWidth v * 8) (h : pairs ≤ 4096
   pub room-small : 10 + (20 + size) * pairs ≤ 10 + 52 * 4096
   room-small = rw room-is-needed (room-most v pairs 4096 h)
 
+-- ---- what the judging of what is lent asks
+
+pub none-refused : (none : ℕ) (s : List ℕ) → none ≡ bookRefusal s → none ≡ 0 → bookRefusal s ≡ 0
+none-refused none s d z = sym d ∙ z
+
+pub none-beyond : (w : Bool) (h : ℕ) (s : List ℕ) → w ≡ hidesBeyond h s → w ≡ false → hidesBeyond h s ≡ false
+none-beyond w h s d z = sym d ∙ z
+
 -- ---- what is declined
 
-module _ (both : Bool) (l r : List ℕ) (c : ℕ) (b : Lists) where
-  declined : (a : CompareAnswer) → rightAnswer (sidesOf both) l r c b ≡ a → b ≡ leftBy (sidesOf both) l r c b a → IsCompare (sidesOf both) l r c b a b
+module _ (both : Bool) (l r : List ℕ) (c : ℕ) (hidden : Hidden) (b : Lists) where
+  declined : (a : CompareAnswer) → rightAnswer (sidesOf both) l r c hidden b ≡ a → b ≡ leftBy (sidesOf both) l r c hidden b a → IsCompare (sidesOf both) l r c hidden b a b
   declined a e k = record { answer = sym e; lists = rw e k }
 
-  pub bound-above : mostBound < c → IsCompare (sidesOf both) l r c b says.BoundAbove b
+  pub bound-above : mostBound < c → IsCompare (sidesOf both) l r c hidden b says.BoundAbove b
   unfolding compareAnswer leftBy
   bound-above h = declined says.BoundAbove (simp (lt-ltb mostBound c h)) refl
 
   module _ (low : c ≤ mostBound) where
-    pub left-refused : (refusal : ℕ) → refusal ≡ bookRefusal l → (refusal ≡ 0 → ⊥) → IsCompare (sidesOf both) l r c b (says.LeftRefused refusal) b
+    pub left-refused : (refusal : ℕ) → refusal ≡ bookRefusal l → (refusal ≡ 0 → ⊥) → IsCompare (sidesOf both) l r c hidden b (says.LeftRefused refusal) b
     unfolding compareAnswer leftBy
     left-refused refusal e f = rw e (declined (says.LeftRefused (bookRefusal l)) (simp (le-ltb mostBound c low, ne-eqb (bookRefusal l) 0 (rw e at f))) refl)
 
     -- none of the left book
     pub right-refused : (none refusal : ℕ) → none ≡ bookRefusal l → none ≡ 0 → refusal ≡ bookRefusal r → (refusal ≡ 0 → ⊥)
-        → IsCompare (sidesOf both) l r c b (says.RightRefused refusal) b
+        → IsCompare (sidesOf both) l r c hidden b (says.RightRefused refusal) b
     unfolding compareAnswer leftBy
     right-refused none refusal d z e f =
         rw e (declined (says.RightRefused (bookRefusal r)) (simp (le-ltb mostBound c low, eq-eqb (bookRefusal l) 0 (sym d ∙ z), ne-eqb (bookRefusal r) 0 (rw e at f))) refl)
 
-    module _ (left : bookRefusal l ≡ 0) (right : bookRefusal r ≡ 0) (n m : ℕ) (d : n ≡ cellsOf l) (e : m ≡ cellsOf r) where
-      -- what is lent is judged by the number of pairs
-      lent-declined : (a : CompareAnswer) → lentAnswer (sheetVersion l r) (n * m) (length (b .map)) (length (b .room)) (length (b .scratch)) (length (comparedSheet (sidesOf both) l r c)) (zeros (comparedMap (sidesOf both) l r c)) ≡ a
-          → b ≡ leftBy (sidesOf both) l r c b a → IsCompare (sidesOf both) l r c b a b
-      lent-declined a k = declined a (books-accepted l r c _ _ _ _ _ low left right ∙ rw (d, e) at k)
+    -- none of either book, and a word that hides what is no cell
+    module _ (none none′ : ℕ) (dl : none ≡ bookRefusal l) (zl : none ≡ 0) (dr : none′ ≡ bookRefusal r) (zr : none′ ≡ 0) (w : Bool) (d : w ≡ hidesBeyond (hidden .left) l) where
+      pub left-hidden : w ≡ true → IsCompare (sidesOf both) l r c hidden b says.LeftHidden b
+      unfolding compareAnswer leftBy
+      left-hidden e =
+          declined says.LeftHidden (simp (le-ltb mostBound c low, eq-eqb (bookRefusal l) 0 (sym dl ∙ zl), eq-eqb (bookRefusal r) 0 (sym dr ∙ zr), sym d ∙ e)) refl
 
-      pub map-length : (length (b .map) ≡ n * m → ⊥) → IsCompare (sidesOf both) l r c b says.MapLength b
+      pub right-hidden : w ≡ false → (v : Bool) → v ≡ hidesBeyond (hidden .right) r → v ≡ true → IsCompare (sidesOf both) l r c hidden b says.RightHidden b
+      unfolding compareAnswer leftBy
+      right-hidden z v f e =
+          declined says.RightHidden
+          (simp (le-ltb mostBound c low, eq-eqb (bookRefusal l) 0 (sym dl ∙ zl), eq-eqb (bookRefusal r) 0 (sym dr ∙ zr), sym d ∙ z, sym f ∙ e)) refl
+
+    module _ (left : bookRefusal l ≡ 0) (right : bookRefusal r ≡ 0) (lw : hidesBeyond (hidden .left) l ≡ false) (rw′ : hidesBeyond (hidden .right) r ≡ false)
+        (n m : ℕ) (d : n ≡ cellsOf l) (e : m ≡ cellsOf r) where
+      -- what is lent is judged by the number of pairs
+      lent-declined : (a : CompareAnswer) → lentAnswer (sheetVersion l r) (n * m) (length (b .map)) (length (b .room)) (length (b .scratch)) (length (comparedSheet (sidesOf both) l r c hidden)) (zeros (comparedMap (sidesOf both) l r c hidden)) ≡ a
+          → b ≡ leftBy (sidesOf both) l r c hidden b a → IsCompare (sidesOf both) l r c hidden b a b
+      lent-declined a k = declined a (books-accepted l r c hidden _ _ _ _ _ low left right lw rw′ ∙ rw (d, e) at k)
+
+      pub map-length : (length (b .map) ≡ n * m → ⊥) → IsCompare (sidesOf both) l r c hidden b says.MapLength b
       unfolding lentAnswer leftBy
       map-length f = lent-declined says.MapLength (simp (ne-eqb (length (b .map)) (n * m) f)) refl
 
       module _ (places : length (b .map) ≡ n * m) (v needed : ℕ) (dv : v ≡ sheetVersion l r) (k : needed ≡ roomNeeded v (n * m)) where
-        pub few-room : length (b .room) < needed → IsCompare (sidesOf both) l r c b says.FewRoom b
+        pub few-room : length (b .room) < needed → IsCompare (sidesOf both) l r c hidden b says.FewRoom b
         unfolding lentAnswer leftBy
         few-room h = lent-declined says.FewRoom (simp (eq-eqb (length (b .map)) (n * m) places, lt-ltb (length (b .room)) (roomNeeded (sheetVersion l r) (n * m)) (rw (k, dv) at h))) refl
 
         module _ (roomy : needed ≤ length (b .room)) where
-          pub few-scratch : length (b .scratch) < scratchNeeded (n * m) → IsCompare (sidesOf both) l r c b says.FewScratch b
+          pub few-scratch : length (b .scratch) < scratchNeeded (n * m) → IsCompare (sidesOf both) l r c hidden b says.FewScratch b
           unfolding lentAnswer leftBy
           few-scratch h =
               lent-declined says.FewScratch
@@ -187,19 +210,21 @@ module _ (a : CompareAnswer) (sheet count : ℕ) (d : a ≡ says.Compared sheet 
   pub count-bits : compareOutcome a .second < 2 ^ 24 → count < 2 ^ 24
   count-bits h = rw d at h
 
-module _ (both : Bool) (l r : List ℕ) (c : ℕ) (before now : Lists) (a : CompareAnswer) (t : IsCompare (sidesOf both) l r c before a now) where
+module _ (both : Bool) (l r : List ℕ) (c : ℕ) (hidden : Hidden) (before now : Lists) (a : CompareAnswer) (t : IsCompare (sidesOf both) l r c hidden before a now) where
   module _ (bl : (i : ℕ) → Fits w8 (getD l i 0)) (br : (i : ℕ) → Fits w8 (getD r i 0)) where
     -- the values of an answer
-    values : (x : CompareAnswer) → x ≡ rightAnswer (sidesOf both) l r c before → (compareOutcome x .first < 2 ^ 24) × (compareOutcome x .second < 2 ^ 24)
+    values : (x : CompareAnswer) → x ≡ rightAnswer (sidesOf both) l r c hidden before → (compareOutcome x .first < 2 ^ 24) × (compareOutcome x .second < 2 ^ 24)
     values (says.Compared sheet count) e =
-        let (g, d, n) = compared-accepts l r c _ _ _ _ _ sheet count e in
+        let (g, d, n) = compared-accepts l r c hidden _ _ _ _ _ sheet count e in
         let books : Given l r c =
         record { bytes = (record { each = λ i. bl i .fits }, record { each = λ i. br i .fits }); left = g .left; right = g .right; bound = g .bound } in
         let most = pairs-most l r (g .left) (g .right) in
-        (omega (arith, d, sheet-fits (sidesOf both) books, room-most (sheetVersion l r) _ 4096 most), omega (arith, n, zeros-nonzeros (comparedMap (sidesOf both) l r c), map-places (sidesOf both) books))
+        (omega (arith, d, sheet-fits (sidesOf both) hidden books, room-most (sheetVersion l r) _ 4096 most), omega (arith, n, zeros-nonzeros (comparedMap (sidesOf both) l r c hidden), map-places (sidesOf both) hidden books))
     values says.BoundAbove e = (omega arith, omega arith)
     values (says.LeftRefused refusal) e = (omega arith, omega arith)
     values (says.RightRefused refusal) e = (omega arith, omega arith)
+    values says.LeftHidden e = (omega arith, omega arith)
+    values says.RightHidden e = (omega arith, omega arith)
     values says.MapLength e = (omega arith, omega arith)
     values says.FewRoom e = (omega arith, omega arith)
     values says.FewScratch e = (omega arith, omega arith)
@@ -210,5 +235,5 @@ module _ (both : Bool) (l r : List ℕ) (c : ℕ) (before now : Lists) (a : Comp
     pub second-small : compareOutcome a .second < 2 ^ 24
     second-small = values a (t .answer) .1
 
-  pub compare-coded : (v : ℕ) → v ≡ code (compareOutcome a) → IsCompareCode (sidesOf both) l r c before v now
+  pub compare-coded : (v : ℕ) → v ≡ code (compareOutcome a) → IsCompareCode (sidesOf both) l r c hidden before v now
   compare-coded v e = record { answer = e ∙ ap (λ a. code (compareOutcome a)) (t .answer); lists = t .lists }

@@ -3,3 +3,4 @@ pub mod Parted
 pub mod Laws
 pub mod Promises
 pub mod OutcomeLaws
+pub mod SecrecyLaws

@@ -10,9 +10,10 @@ use Rattle.theory.specs.Bisimulation.{Relation, flip, Sides, oneSided, twoSided
 use Rattle.theory.specs.Parting.{Reason, byLink, byPaths}
 use Rattle.theory.specs.Choosing.{Choice, none, some, chosen}
 use Rattle.sheet.specs.Entry.{Step, Entry, truth, negation, conjunction, way, comparison as comparing}
+use Rattle.compare_laws.specs.Places.{startMap}
 use Rattle.compare_laws.specs.Setting.{Setting, pairs, relationAfter}
 
--- The entries so far; the map, 0 where a pair is not parted; and for each node of each graph the number of the entry that describes it, as the round
+-- The entries so far; the map, 0 where a pair of nodes is not parted; and for each node of each graph the number of the entry that describes it, as the round
 -- found it and as it has become.
 pub record State : Type 0 where
   pub entries : List Entry
@@ -27,7 +28,7 @@ unfoldable pub begin : Setting → State
 begin s =
     record {
       entries = truth ∷ [];
-      map = replicate (pairs s) 0;
+      map = startMap (s .left .size) (s .right .size) (s .left .shown) (s .right .shown);
       oldLeft = replicate 64 0;
       oldRight = replicate 64 0;
       newLeft = replicate 64 0;
@@ -150,7 +151,7 @@ unfoldable pub obey : Sides → ℕ → ℕ → ℕ → Verdict → State → St
 obey x m a b remains now = now
 obey x m a b (partedBy why) now = part x m a b why now
 
--- The step for a pair that z relates; others were parted before.
+-- The step for a pair that z relates; others were parted before, or are none of two nodes.
 unfoldable pub settle : Setting → Relation → ℕ → ℕ → State → State
 settle s z a b now = cond (z a b) (obey (s .sides) (s .right .size) a b (verdict s z a b) now) now
 
@@ -168,6 +169,6 @@ states s (suc k) = turned (upto s (relationAfter s k) (pairs s) (states s k))
 abbrev pub stateAt : Setting → ℕ → ℕ → State
 stateAt s k p = upto s (relationAfter s k) p (states s k)
 
--- The comparison: the state after as many rounds as there are pairs.
+-- The comparison: the state after as many rounds as the map has places.
 abbrev pub comparison : Setting → State
 comparison s = states s (pairs s)

@@ -2,39 +2,29 @@
 -- (`Compared`) holds of them, whatever code may do. And what code cites that goes from place to place: when the next state is this one, when it is the step
 -- for a pair that is judged, and that there is room for it.
 use mathlib.Core.Bool.{Bool, true, false, So, false≢true}
-use mathlib.Core.Logic.{⊎-elim, _≢_}
+use mathlib.Core.Logic.{_≢_}
 use mathlib.Core.Path.{_≡_, refl, sym, ap, _∙_, subst}
 use Prim.Native.Nat.{ℕ, zero, suc, _+_, _*_, _/_, _%_, _<_, _≤_}
-use native.Mathlib.Nat.{le-refl, div-add-mod', mod-lt, mul-le-mul, mul-le-mul-left, mul-le-mul-right, mul-zero}
+use native.Mathlib.Nat.{le-refl, div-add-mod', mul-le-mul, mul-le-mul-left}
 use native.Mathlib.Omega.{arith}
 use borrow.Author.Tests.{eqb-true, eq-eqb}
 use lib.ListN.{length}
 use Rattle.theory.specs.Graph.{Graph}
 use Rattle.theory.specs.Bisimulation.{Relation, flip, Sides, oneSided, twoSided}
 use Rattle.theory.specs.Rounds.{zigs, zags}
-use Rattle.theory.specs.TestLaws.{le-or-lt}
 use Rattle.theory.specs.Choosing.{Choice, none, some, chosen}
 use Rattle.theory.specs.ChoosingLaws.{chosen-fails, chosen-none}
 use Rattle.sheet.specs.Sheet.{mostEntries}
 use Rattle.sheet.specs.Encoding.{encode}
 use Rattle.compare_laws.specs.Places.{placed}
-use Rattle.compare_laws.specs.PlaceLaws.{nonzeros-most, place-below}
+use Rattle.compare_laws.specs.PlaceLaws.{nonzeros-most, place-below, place-over, place-under, row-below, column-below}
 use Rattle.compare_laws.specs.Setting.{Setting, pairs, relationAfter}
 use Rattle.compare_laws.specs.Room.{pairEntries, pairBytes, roomNeeded}
 use Rattle.compare_laws.specs.Comparison.{State, begin, turned, verdict, obey, settle, upto, states, stateAt, comparison}
 use Rattle.compare_laws.specs.Refining.{Comparable, Refined, Compared}
-use Rattle.compare_laws.specs.StepLaws.{place-over, place-under, verdict-left, verdict-right, kept-clauses, settle-stays, stays-refined, shares-related, zero-related, zero-spare}
+use Rattle.compare_laws.specs.StepLaws.{verdict-left, verdict-right, kept-clauses, settle-stays, stays-refined, shares-related, zero-related, zero-spare}
 use Rattle.compare_laws.specs.WritingLaws.{ahead-refined, back-refined}
 use Rattle.compare_laws.specs.RoundLaws.{begin-refined, turned-refined, still-compared, last-compared}
-
--- the row of a place
-row-below : (n m p : ℕ) → p < n * m → p / m < n
-row-below n m p h =
-    ⊎-elim (λ k. absurd (omega (arith, mul-le-mul-right m k, div-add-mod' p m))) (λ k. k) (le-or-lt n (p / m))
-
-width-some : (n m p : ℕ) → p < n * m → 0 < m
-width-some n zero p h = absurd (omega (arith, mul-zero n))
-width-some n (suc m) p h = omega arith
 
 -- the clauses from right to left, where both sides count
 back-holds : (x : Sides) (l r : Graph) (c : ℕ) (z : Relation) (a b : ℕ) → x ≡ twoSided → So (zigs r l c (flip z) b a) → So (zags x l r c z a b)
@@ -99,7 +89,7 @@ module _ {s : Setting} (g : Comparable s) where
   places-refined k inv zero h = inv
   places-refined k inv (suc p) h =
       place-refined k (p / s .right .size) (p % s .right .size) p (stateAt s k p) (div-add-mod' p (s .right .size))
-      (row-below (s .left .size) (s .right .size) p h) (mod-lt p (width-some (s .left .size) (s .right .size) p h)) (places-refined k inv p (omega arith))
+      (row-below (s .left .size) (s .right .size) p h) (column-below (s .left .size) (s .right .size) p h) (places-refined k inv p (omega arith))
 
   -- the rounds
   states-refined : (k : ℕ) → Refined s k 0 (states s k)

@@ -5,7 +5,7 @@ use mathlib.Core.Logic.{_↔_, _≢_}
 use mathlib.Core.Path.{_≡_}
 use Prim.Native.Nat.{ℕ, suc, _+_, _*_, _<_, _≤_}
 use lib.ListN.{length, getD, set}
-use Rattle.theory.specs.Graph.{WellFormed}
+use Rattle.theory.specs.Graph.{Node, WellFormed}
 use Rattle.theory.specs.Expression.{NodeExpr}
 use Rattle.theory.specs.Bound.{depth}
 use Rattle.theory.specs.Bisimulation.{Relation, flip, twoSided}
@@ -13,10 +13,10 @@ use Rattle.theory.specs.Rounds.{related, settled}
 use Rattle.theory.specs.Parting.{Tells, LeastDepth, Parts, Describes, Described, Fails}
 use Rattle.theory.specs.Choosing.{Symmetric}
 use Rattle.sheet.specs.Entry.{Entry, expression}
-use Rattle.sheet.specs.Sheet.{mostVersion, mostBound}
+use Rattle.sheet.specs.Sheet.{mostVersion, mostBound, hiddenPlace}
 use Rattle.sheet.specs.Encoding.{encode}
 use Rattle.compare_laws.specs.Places.{placed, unparted, unpartedBefore, nonzeros}
-use Rattle.compare_laws.specs.Setting.{Setting, swapped, pairs, relationAfter}
+use Rattle.compare_laws.specs.Setting.{Setting, swapped, shownPair, pairs, relationAfter}
 use Rattle.compare_laws.specs.Comparison.{State, Cause, ahead, back, states, stateAt, comparison}
 use Rattle.compare_laws.specs.Room.{pairEntries, pairBytes}
 use Rattle.compare_laws.specs.Entries.{Sheet, Grows, Narrow}
@@ -48,7 +48,7 @@ PartsPair s = Parts (s .sides) (s .left) (s .right) (s .bound)
 abbrev pub DescribesNode : Setting → ℕ → Relation → ℕ → (ℕ → Type 0) → NodeExpr → Type 0
 DescribesNode s = Describes (s .sides) (s .left) (s .right) (s .bound)
 
--- The numbers xs name, for each left node, an entry that describes it.
+-- The numbers xs name, for each left node, an entry that describes it (and for each other number below the size some entry).
 pub record DescribedBy (s : Setting) (d : ℕ) (z : Relation) (es : List Entry) (xs : List ℕ) : Type 0 where
   pub wide : s .left .size ≤ length xs
   pub earlier : (x : ℕ) → x < s .left .size → getD xs x 0 < length es
@@ -72,10 +72,12 @@ pub record Refined (s : Setting) (k p : ℕ) (now : State) : Type 0 where
   -- the places before p are as round k + 1 leaves them, the others as round k did
   pub settled : (a b : ℕ) → a < s .left .size → b < s .right .size → a * s .right .size + b < p → unparted (s .right .size) (now .map) a b ≡ relationAfter s (suc k) a b
   pub waiting : (a b : ℕ) → a < s .left .size → b < s .right .size → p ≤ a * s .right .size + b → unparted (s .right .size) (now .map) a b ≡ relationAfter s k a b
-  pub named : (a b : ℕ) → a < s .left .size → b < s .right .size → unparted (s .right .size) (now .map) a b ≡ false
+  pub named : (a b : ℕ) → Node (s .left) a → Node (s .right) b → unparted (s .right .size) (now .map) a b ≡ false
       → Named s (now .entries) a b (placed (s .right .size) (now .map) a b)
+  -- a place of a node that is not shown is as it was
+  pub hidden : (a b : ℕ) → a < s .left .size → b < s .right .size → shownPair s a b ≡ false → placed (s .right .size) (now .map) a b ≡ hiddenPlace
   -- the relation that the round began with, by the map
-  pub began : (a b : ℕ) → a < s .left .size → b < s .right .size → unpartedBefore (s .right .size) (length (states s k .entries)) (now .map) a b ≡ relationAfter s k a b
+  pub began : (a b : ℕ) → Node (s .left) a → Node (s .right) b → unpartedBefore (s .right .size) (length (states s k .entries)) (now .map) a b ≡ relationAfter s k a b
   pub from : length (states s k .entries) ≤ length (now .entries)
   -- the old numbers describe the nodes for that relation, the new ones for the zeros of the map
   pub oldLeft : DescribedBy s k (relationAfter s k) (now .entries) (now .oldLeft)
@@ -88,7 +90,7 @@ pub record Redescribed (s : Setting) (d : ℕ) (z : Relation) (es : List Entry) 
   pub entry : ℕ
   pub is : xs′ ≡ set xs x entry
   pub number : entry < length es
-  pub describes : DescribesNode s d z x (λ y. y < s .right .size) (expression es entry)
+  pub describes : DescribesNode s d z x (Node (s .right)) (expression es entry)
 
 -- What a step for the pair (a, b) in round k + 1 has to leave: a new entry i that parts it, and a and b described without it.
 pub record Written (s : Setting) (k a b : ℕ) (now next : State) (i : ℕ) : Type 0 where
@@ -108,7 +110,8 @@ pub record Written (s : Setting) (k a b : ℕ) (now next : State) (i : ℕ) : Ty
 
 -- ---- what is promised in the end
 
--- The zeros of the map are the matched pairs. Every other number names an expression that parts its pair, of the smallest depth of those that do.
+-- The zeros of the map are the matched pairs. Of two nodes every other number names an expression that parts them, of the smallest depth of those that do;
+-- the places of a node that is not shown hold `hiddenPlace`.
 pub record Compared (s : Setting) (es : List Entry) (map : List ℕ) : Type 0 where
   pub entries : es ≡ comparison s .entries
   pub places : map ≡ comparison s .map
@@ -117,8 +120,9 @@ pub record Compared (s : Setting) (es : List Entry) (map : List ℕ) : Type 0 wh
   pub room : length (encode (s .version) es) ≤ 2 + pairBytes (s .version) * nonzeros map
   pub size : length map ≡ pairs s
   pub zeros : (a b : ℕ) → a < s .left .size → b < s .right .size → (placed (s .right .size) map a b ≡ 0) ↔ So (related (settled (s .sides) (s .left) (s .right) (s .bound)) a b)
-  pub number : (a b : ℕ) → a < s .left .size → b < s .right .size → placed (s .right .size) map a b ≢ 0 → placed (s .right .size) map a b < length es
-  pub tells : (a b : ℕ) → a < s .left .size → b < s .right .size → placed (s .right .size) map a b ≢ 0
+  pub hidden : (a b : ℕ) → a < s .left .size → b < s .right .size → shownPair s a b ≡ false → placed (s .right .size) map a b ≡ hiddenPlace
+  pub number : (a b : ℕ) → Node (s .left) a → Node (s .right) b → placed (s .right .size) map a b ≢ 0 → placed (s .right .size) map a b < length es
+  pub tells : (a b : ℕ) → Node (s .left) a → Node (s .right) b → placed (s .right .size) map a b ≢ 0
       → Tells (s .sides) (s .left) (s .right) (s .bound) a b (expression es (placed (s .right .size) map a b))
-  pub least : (a b : ℕ) → a < s .left .size → b < s .right .size → placed (s .right .size) map a b ≢ 0
+  pub least : (a b : ℕ) → Node (s .left) a → Node (s .right) b → placed (s .right .size) map a b ≢ 0
       → LeastDepth (s .sides) (s .left) (s .right) (s .bound) a b (depth (expression es (placed (s .right .size) map a b)))

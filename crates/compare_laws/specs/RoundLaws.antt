@@ -9,15 +9,16 @@ use native.Mathlib.Nat.{le-refl, not-suc-le-zero, zero-add, suc-add}
 use lib.Dec.{leb}
 use lib.ListN.{length, replicate, length-replicate, getD-replicate}
 use borrow.Author.Tests.{eqb-true, eq-eqb, ne-eqb, lt-leb}
+use Rattle.theory.specs.Graph.{Node}
 use Rattle.theory.specs.Bisimulation.{Relation}
 use Rattle.theory.specs.Rounds.{related, round, rounds, settled}
-use Rattle.theory.specs.TestLaws.{facts, le-or-lt}
-use Rattle.theory.specs.GreatestLaws.{related-iff, fixed, still-settled}
+use Rattle.theory.specs.TestLaws.{facts, and-iff, le-or-lt}
+use Rattle.theory.specs.GreatestLaws.{related-at, start-iff, after-inside, fixed, still-settled}
 use Rattle.theory.specs.DescribingLaws.{always-describes, parts-least}
 use Rattle.sheet.specs.Entry.{Entry}
 use Rattle.sheet.specs.Encoding.{bodyOf, encodeEntry, encode}
-use Rattle.compare_laws.specs.Places.{placed, unparted}
-use Rattle.compare_laws.specs.PlaceLaws.{place-below}
+use Rattle.compare_laws.specs.Places.{placed, startMap, unparted, unpartedBefore}
+use Rattle.compare_laws.specs.PlaceLaws.{place-below, length-start, start-placed, start-unparted}
 use Rattle.compare_laws.specs.Setting.{Setting, swapped, pairs, relationAfter}
 use Rattle.compare_laws.specs.Entries.{Sheet}
 use Rattle.compare_laws.specs.EntryLaws.{grows-refl, sheet-truth, expression-zero}
@@ -25,14 +26,14 @@ use Rattle.compare_laws.specs.Comparison.{State, begin, turned, upto, st
 use Rattle.compare_laws.specs.Refining.{Comparable, DescribedBy, Refined, Compared}
 use Rattle.compare_laws.specs.StepLaws.{described-more, kept-clauses, settle-stays}
 
--- entry 0 describes every node, for a relation of all
+-- entry 0 describes every node, for a relation of all nodes
 zeros-describe : {s : Setting} {d : ℕ} {z : Relation} {es : List Entry} → Sheet (s .version) (s .bound) es → s .left .size ≤ 64
-    → ((x y : ℕ) → x < s .left .size → y < s .right .size → So (z x y)) → DescribedBy s d z es (replicate 64 0)
+    → ((x y : ℕ) → Node (s .left) x → Node (s .right) y → So (z x y)) → DescribedBy s d z es (replicate 64 0)
 zeros-describe t small f =
     record {
       wide = simp length-replicate small;
       earlier = λ x o. rw (getD-replicate {A = ℕ} 64 x 0 0 (omega arith)) (t .some);
-      describes = λ x o. rw (getD-replicate {A = ℕ} 64 x 0 0 (omega arith), expression-zero t) (always-describes o (λ y u. f x y o u));
+      describes = λ x o. rw (getD-replicate {A = ℕ} 64 x 0 0 (omega (arith, o .below)), expression-zero t) (always-describes (o .below) (λ y u. f x y o u));
     }
 
 -- ---- rounds that write nothing
@@ -82,10 +83,11 @@ module _ {s : Setting} (g : Comparable s) where
         sheet = sheet-truth (s .version) (s .bound);
         few = omega arith;
         room = omega arith;
-        size = length-replicate _ 0;
+        size = length-start _ _ _ _;
         settled = λ x y _ _ h. absurd (not-suc-le-zero h);
-        waiting = λ x y o u _. all x y o u ∙ sym (start x y o u);
+        waiting = λ x y o u _. start-unparted _ _ _ _ x y o u ∙ sym (unfold rounds in related-at _ _ _ x y o u);
         named = λ x y o u e. absurd (false≢true (sym e ∙ all x y o u));
+        hidden = λ x y o u e. start-placed _ _ _ _ x y o u ∙ rw e refl;
         began = λ x y o u. simp facts (inl (all x y o u)) ∙ sym (start x y o u);
         from = omega arith;
         oldLeft = zeros-describe (sheet-truth (s .version) (s .bound)) (g .small .0) start;
@@ -94,11 +96,12 @@ module _ {s : Setting} (g : Comparable s) where
         newRight = λ _. zeros-describe {s = swapped s} (sheet-truth (s .version) (s .bound)) (g .small .1) (λ y x u o. all x y o u);
       }
     where
-      all : (x y : ℕ) → x < s .left .size → y < s .right .size → So (unparted (s .right .size) (replicate (pairs s) 0) x y)
-      all x y o u = eq-eqb _ 0 (getD-replicate _ _ 0 0 (place-below (s .left .size) (s .right .size) x y o u))
+      all : (x y : ℕ) → Node (s .left) x → Node (s .right) y
+          → So (unparted (s .right .size) (startMap (s .left .size) (s .right .size) (s .left .shown) (s .right .shown)) x y)
+      all x y o u = start-unparted _ _ _ _ x y (o .below) (u .below) ∙ and-iff _ _ .1 (o .seen, u .seen)
 
-      start : (x y : ℕ) → x < s .left .size → y < s .right .size → So (relationAfter s 0 x y)
-      start x y o u = unfold rounds in related-iff _ _ _ x y .1 (o, u, refl)
+      start : (x y : ℕ) → Node (s .left) x → Node (s .right) y → So (relationAfter s 0 x y)
+      start x y o u = start-iff (s .sides) (s .bound) (g .formed .0) (g .formed .1) x y .1 (o, u)
 
   module _ {k : ℕ} {now : State} (inv : Refined s k (pairs s) now) where
     round-done : (x y : ℕ) → x < s .left .size → y < s .right .size → unparted (s .right .size) (now .map) x y ≡ relationAfter s (suc k) x y
@@ -126,28 +129,35 @@ module _ {s : Setting} (g : Comparable s) where
           settled = λ x y _ _ h. absurd (not-suc-le-zero h);
           waiting = λ x y o u _. round-done x y o u;
           named = inv .named;
-          began = λ x y o u. rw next-entries (since x y o u (unparted (s .right .size) (now .map) x y) refl) ∙ round-done x y o u;
+          hidden = inv .hidden;
+          began = λ x y o u. rw next-entries (since x y o u (unparted (s .right .size) (now .map) x y) refl) ∙ round-done x y (o .below) (u .below);
           from = omega (arith, next-entries);
-          oldLeft = described-more (le-refl _) (grows-refl _) (λ x y o u h. sym (round-done x y o u) ∙ h) (inv .newLeft);
-          oldRight = λ q. described-more (le-refl _) (grows-refl _) (λ y x u o h. sym (round-done x y o u) ∙ h) (inv .newRight q);
+          oldLeft = described-more (le-refl _) (grows-refl _) (λ x y o u h. sym (round-done x y (o .below) (u .below)) ∙ h) (inv .newLeft);
+          oldRight = λ q. described-more (le-refl _) (grows-refl _) (λ y x u o h. sym (round-done x y (o .below) (u .below)) ∙ h) (inv .newRight q);
           newLeft = described-more (omega arith) (grows-refl _) (λ x y o u h. h) (inv .newLeft);
           newRight = λ q. described-more (omega arith) (grows-refl _) (λ y x u o h. h) (inv .newRight q);
         }
       where
         -- a number in the map is one of the entries before
-        since : (x y : ℕ) → x < s .left .size → y < s .right .size → (i : Bool) → unparted (s .right .size) (now .map) x y ≡ i
+        since : (x y : ℕ) → Node (s .left) x → Node (s .right) y → (i : Bool) → unparted (s .right .size) (now .map) x y ≡ i
             → (i || leb (length (now .entries)) (placed (s .right .size) (now .map) x y)) ≡ i
         since x y o u true e = refl
         since x y o u false e = lt-leb _ _ (inv .named x y o u e .number)
 
     module _ (e : length (now .entries) ≡ length (states s k .entries)) where
       -- a round that writes nothing drops no pair
-      still-same : (x y : ℕ) → x < s .left .size → y < s .right .size → relationAfter s (suc k) x y ≡ relationAfter s k x y
-      still-same x y o u = sym (round-done x y o u) ∙ sym (was _ refl)
+      still-same : (x y : ℕ) → So (relationAfter s k x y) → So (relationAfter s (suc k) x y)
+      still-same x y h =
+          let (o, u) = after-inside (s .sides) (s .bound) (g .formed .0) (g .formed .1) k x y h in
+          sym (round-done x y (o .below) (u .below)) ∙ was o u _ refl
         where
-          was : (i : Bool) → unparted (s .right .size) (now .map) x y ≡ i → relationAfter s k x y ≡ i
-          was true f = sym (inv .began x y o u) ∙ simp facts (inl f)
-          was false f = sym (inv .began x y o u) ∙ (rw f (lt-leb _ _ (rw e at (inv .named x y o u f .number))))
+          was : Node (s .left) x → Node (s .right) y → (i : Bool) → unparted (s .right .size) (now .map) x y ≡ i
+              → So (unparted (s .right .size) (now .map) x y)
+          was o u true f = f
+          was o u false f =
+              let n : unpartedBefore (s .right .size) (length (states s k .entries)) (now .map) x y ≡ false =
+              rw f (lt-leb _ _ (rw e at (inv .named x y o u f .number))) in
+              absurd (false≢true (sym n ∙ inv .began x y o u ∙ h))
 
       -- a round that writes nothing is one of the last
       still-rounds : tableAfter s k ≡ lastTable s
@@ -155,7 +165,7 @@ module _ {s : Setting} (g : Comparable s) where
 
       -- a round that writes nothing leaves the greatest
       still-related : (a b : ℕ) → a < s .left .size → b < s .right .size → unparted (s .right .size) (now .map) a b ≡ related (lastTable s) a b
-      still-related a b o u = round-done a b o u ∙ still-same a b o u ∙ ap (λ t. related t a b) still-rounds
+      still-related a b o u = round-done a b o u ∙ ap (λ t. related t a b) (settled-next s g k still-rounds)
 
   -- what is promised, once the zeros are the greatest
   settled-compared : {k p : ℕ} {now : State} → Refined s k p now → now .entries ≡ comparison s .entries → now .map ≡ comparison s .map
@@ -170,6 +180,7 @@ module _ {s : Setting} (g : Comparable s) where
         room = inv .room;
         size = inv .size;
         zeros = λ a b o u. (λ e. sym (f a b o u) ∙ eq-eqb _ 0 e, λ e. eqb-true _ 0 (f a b o u ∙ e));
+        hidden = inv .hidden;
         number = λ a b o u e. inv .named a b o u (ne-eqb _ 0 e) .number;
         tells = λ a b o u e. inv .named a b o u (ne-eqb _ 0 e) .parts .tells;
         least = λ a b o u e.

@@ -1,4 +1,5 @@
 -- The setting of a comparison: what it depends on, and nothing else.
+use mathlib.Core.Bool.{Bool, _&&_}
 use Prim.Native.Nat.{ℕ, _*_}
 use Rattle.theory.specs.Graph.{Graph}
 use Rattle.theory.specs.Bisimulation.{Relation, Sides}
@@ -16,7 +17,11 @@ pub record Setting : Type 0 where
 abbrev pub swapped : Setting → Setting
 swapped s = record { left = s .right; right = s .left; sides = s .sides; bound = s .bound; version = s .version }
 
--- The number of pairs of a left and a right node ("n × m").
+-- Whether both nodes of a pair are shown.
+abbrev pub shownPair : Setting → ℕ → ℕ → Bool
+shownPair s a b = s .left .shown a && s .right .shown b
+
+-- The number of places of the map ("n × m").
 abbrev pub pairs : Setting → ℕ
 pairs s = s .left .size * s .right .size
 

@@ -1,20 +1,20 @@
 -- The steps keep the invariant: a pair that stays, and a pair that is parted.
-use mathlib.Core.Bool.{Bool, true, false, So}
+use mathlib.Core.Bool.{Bool, true, false, So, false≢true}
 use mathlib.Core.List.{List}
 use mathlib.Core.Logic.{_⊎_, inl, inr, ⊎-elim, _≢_}
 use mathlib.Core.Path.{_≡_, refl, sym, ap, _∙_}
-use Prim.Native.Nat.{ℕ, suc, _+_, _*_, _/_, _%_, _<_, _≤_}
+use Prim.Native.Nat.{ℕ, suc, _+_, _*_, _<_, _≤_}
 use native.Mathlib.Omega.{arith}
-use native.Mathlib.Nat.{eq-or-lt-of-le, le-of-suc-le-suc, le-refl, div-add-mod', mod-lt}
+use native.Mathlib.Nat.{eq-or-lt-of-le, le-of-suc-le-suc, le-refl}
 use lib.ListN.{length, getD, set, length-set}
 use lib.Seq.{getD-set-same, getD-set-other}
 use borrow.Author.Tests.{eqb-true, eq-eqb, ne-eqb, le-leb}
 use Rattle.theory.specs.Expression.{NodeExpr}
-use Rattle.theory.specs.Graph.{Graph}
+use Rattle.theory.specs.Graph.{Graph, Node}
 use Rattle.theory.specs.Bisimulation.{Relation, flip, Sides, oneSided, twoSided}
 use Rattle.theory.specs.Rounds.{zigs, zags, round, rounds, after}
 use Rattle.theory.specs.TestLaws.{facts, and-iff, test-eq}
-use Rattle.theory.specs.GreatestLaws.{related-iff, descends}
+use Rattle.theory.specs.GreatestLaws.{related-iff, descends, after-inside}
 use Rattle.theory.specs.Choosing.{none, some, chosen}
 use Rattle.theory.specs.ChoosingLaws.{chosen-none}
 use Rattle.theory.specs.Parting.{Reason, Describes}
@@ -23,7 +23,7 @@ use Rattle.theory.specs.RowLaws.{across}
 use Rattle.sheet.specs.Entry.{Entry}
 use Rattle.compare_laws.specs.Room.{pairBytes}
 use Rattle.compare_laws.specs.Places.{placed, unparted, nonzeros}
-use Rattle.compare_laws.specs.PlaceLaws.{nonzeros-set, nonzeros-most, eq-or-ne, place-below, place-row, place-column, placed-set, placed-other}
+use Rattle.compare_laws.specs.PlaceLaws.{nonzeros-set, nonzeros-most, eq-or-ne, place-below, place-row, place-column, place-over, place-under, placed-set, placed-other}
 use Rattle.compare_laws.specs.Setting.{Setting, pairs, relationAfter}
 use Rattle.compare_laws.specs.Entries.{Grows}
 use Rattle.compare_laws.specs.Comparison.{State, ahead, back, remains, partedBy, verdictOf, counted, verdict, obey, settle, upto, states}
@@ -44,12 +44,12 @@ describes-more h e f t =
     })
 
 pub described-more : {s : Setting} {d d′ : ℕ} {z z′ : Relation} {es es′ : List Entry} {xs : List ℕ} → d ≤ d′ → Grows es es′
-    → ((x y : ℕ) → x < s .left .size → y < s .right .size → So (z x y) → So (z′ x y)) → DescribedBy s d z es xs → DescribedBy s d′ z′ es′ xs
+    → ((x y : ℕ) → Node (s .left) x → Node (s .right) y → So (z x y) → So (z′ x y)) → DescribedBy s d z es xs → DescribedBy s d′ z′ es′ xs
 described-more h g f t =
     record {
       wide = t .wide;
       earlier = λ x o. omega (arith, t .earlier x o, g .longer);
-      describes = λ x o. describes-more h (g .same _ (t .earlier x o)) (λ y u. (u, f x y o u)) (t .describes x o);
+      describes = λ x o. describes-more h (g .same _ (t .earlier x (o .below))) (λ y u. (u, f x y o u)) (t .describes x o);
     }
 
 pub redescribed-more : {s : Setting} {d x : ℕ} {z : Relation} {es es′ : List Entry} {xs xs′ : List ℕ} → Grows es es′
@@ -68,15 +68,15 @@ named-more g t =
 
 -- one node described anew
 described-set : {s : Setting} {d a : ℕ} {z z′ : Relation} {es es′ : List Entry} {xs xs′ : List ℕ} → Grows es es′
-    → Redescribed s d z′ es′ xs xs′ a → ((x y : ℕ) → x < s .left .size → y < s .right .size → x ≢ a → So (z x y) → So (z′ x y))
+    → Redescribed s d z′ es′ xs xs′ a → ((x y : ℕ) → Node (s .left) x → Node (s .right) y → x ≢ a → So (z x y) → So (z′ x y))
     → DescribedBy s d z es xs → DescribedBy s d z′ es′ xs′
 described-set {s} {a = a} {xs = xs} {xs′ = xs′} g n f t =
     record {
       wide = rw (n .is) (simp length-set (t .wide));
       earlier = λ x o. ⊎-elim (λ e. rw (here x o e) (n .number)) (λ e. rw (other x e) (omega (arith, t .earlier x o, g .longer))) (eq-or-ne x a);
       describes = λ x o.
-          ⊎-elim (λ e. rw (here x o e) (rw e (n .describes)))
-          (λ e. rw (other x e) (describes-more (le-refl _) (g .same _ (t .earlier x o)) (λ y v. (v, f x y o v e)) (t .describes x o)))
+          ⊎-elim (λ e. rw (here x (o .below) e) (rw e (n .describes)))
+          (λ e. rw (other x e) (describes-more (le-refl _) (g .same _ (t .earlier x (o .below))) (λ y v. (v, f x y o v e)) (t .describes x o)))
           (eq-or-ne x a);
     }
   where
@@ -87,14 +87,6 @@ described-set {s} {a = a} {xs = xs} {xs′ = xs′} g n f t =
     other x e = rw (n .is) (getD-set-other xs a x (n .entry) 0 e)
 
 -- ---- the step, as it is defined
-
--- the pair at a place
-module _ (m a b : ℕ) (h : b < m) where
-  pub place-over : (a * m + b) / m ≡ a
-  place-over = place-row m ((a * m + b) / m) ((a * m + b) % m) a b (mod-lt (a * m + b) (omega arith)) h (div-add-mod' (a * m + b) m)
-
-  pub place-under : (a * m + b) % m ≡ b
-  place-under = place-column m ((a * m + b) / m) ((a * m + b) % m) a b (mod-lt (a * m + b) (omega arith)) h (div-add-mod' (a * m + b) m)
 
 -- what is chosen from either side decides
 module _ (s : Setting) (z : Relation) (a b : ℕ) where
@@ -180,6 +172,7 @@ module _ {s : Setting} {k a b : ℕ} {now : State} (g : Comparable s)
         settled = λ x y o′ u′ h. ⊎-elim (λ (e, e′). rw (e, e′) here) (λ h′. inv .settled x y o′ u′ h′) (before-next x y u′ h);
         waiting = λ x y o′ u′ h. inv .waiting x y o′ u′ (omega arith);
         named = inv .named;
+        hidden = inv .hidden;
         began = inv .began;
         from = inv .from;
         oldLeft = inv .oldLeft;
@@ -211,6 +204,9 @@ module _ {s : Setting} {k a b : ℕ} {now : State} (g : Comparable s)
       omega (arith, t, nonzeros-most (set (now .map) p 1), length-set (now .map) p 1, inv .size)
 
   module _ {next : State} {i : ℕ} (e : So (relationAfter s k a b)) (t : Written s k a b now next i) where
+    ends : Node (s .left) a × Node (s .right) b
+    ends = after-inside (s .sides) (s .bound) (g .formed .0) (g .formed .1) k a b e
+
     placed-still : (x y : ℕ) → x * s .right .size + y ≢ a * s .right .size + b → placed (s .right .size) (next .map) x y ≡ placed (s .right .size) (now .map) x y
     placed-still x y h = rw (t .map) (placed-other (s .right .size) (now .map) a b i x y h)
 
@@ -243,18 +239,22 @@ module _ {s : Setting} {k a b : ℕ} {now : State} (g : Comparable s)
           named = λ x y o′ u′. ⊎-elim
               (λ (p, p′). rw (p, p′, placed-here) (λ f. record { number = t .number; round = k; before = e; parts = t .parts }))
               (λ q. rw (placed-still x y q) (λ f. named-more (t .grows) (inv .named x y o′ u′ f)))
+              (this-or-other x y (u′ .below));
+          hidden = λ x y o′ u′ f. ⊎-elim
+              (λ (p, p′). absurd (false≢true (sym (rw (p, p′) at f) ∙ and-iff _ _ .1 (ends .0 .seen, ends .1 .seen))))
+              (λ q. rw (placed-still x y q) (inv .hidden x y o′ u′ f))
               (this-or-other x y u′);
           began = λ x y o′ u′. ⊎-elim
               (λ (p, p′). rw (p, p′, placed-here) (simp facts (inr (le-leb (length (states s k .entries)) i (omega (arith, inv .from, t .fresh)))) ∙ sym e))
               (λ q. rw (placed-still x y q) (inv .began x y o′ u′))
-              (this-or-other x y u′);
+              (this-or-other x y (u′ .below));
           from = omega (arith, inv .from, t .grows .longer);
           oldLeft = rw (t .oldLeft) (described-more (le-refl k) (t .grows) (λ x y _ _ h. h) (inv .oldLeft));
           oldRight = λ q. rw (t .oldRight) (described-more (le-refl k) (t .grows) (λ x y _ _ h. h) (inv .oldRight q));
           newLeft = described-set (t .grows) (t .newLeft)
-              (λ x y o′ u′ q h. rw (placed-still x y (λ v. q (place-row _ x y a b u′ u v))) h) (inv .newLeft);
+              (λ x y o′ u′ q h. rw (placed-still x y (λ v. q (place-row _ x y a b (u′ .below) u v))) h) (inv .newLeft);
           newRight = λ d. described-set (t .grows) (t .newRight d)
-              (λ y x u′ o′ q h. rw (placed-still x y (λ v. q (place-column _ x y a b u′ u v))) h) (inv .newRight d);
+              (λ y x u′ o′ q h. rw (placed-still x y (λ v. q (place-column _ x y a b (u′ .below) u v))) h) (inv .newRight d);
         }
 
 -- a pair that a row before tells of, two-sided: rows a and x share node y and x is related to b, so a is too (theory, `across`)

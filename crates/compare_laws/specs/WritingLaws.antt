@@ -7,10 +7,11 @@ use Prim.Native.Nat.{ℕ, zero, suc, _+_, _*_, _<_, _≤_}
 use native.Mathlib.Omega.{arith}
 use native.Mathlib.Nat.{le-refl}
 use lib.ListN.{length, getD, set}
-use Rattle.theory.specs.Graph.{Graph, WellFormed}
+use Rattle.theory.specs.Graph.{Graph, Node, WellFormed}
 use Rattle.theory.specs.Expression.{NodeExpr, neg, conj, always}
 use Rattle.theory.specs.Bisimulation.{Relation, flip, Sides, oneSided, twoSided}
 use Rattle.theory.specs.ClauseLaws.{apart}
+use Rattle.theory.specs.GreatestLaws.{after-inside}
 use Rattle.theory.specs.Parting.{Parts, Describes, Reason, Fails}
 use Rattle.theory.specs.PartingLaws.{parting, part-back}
 use Rattle.theory.specs.DescribingLaws.{always-holds, parts-describes, conj-describes}
@@ -39,29 +40,27 @@ record Conjoined (s : Setting) (d : ℕ) (z : Relation) (x : ℕ) (es : List Ent
   room : length (encode (s .version) (conjoined es i j)) ≤ length (encode (s .version) es) + 6
   here : (xs : List ℕ) → Redescribed s d z (conjoined es i j) xs (set xs x (conjoint es i j)) x
 
-module _ {s : Sides} {l r : Graph} {c d x b : ℕ} {z : Relation} (z′ : Relation) (less : (y : ℕ) → y < r .size → y ≢ b → So (z x y) → So (z′ x y)) where
+module _ {s : Sides} {l r : Graph} {c d x b : ℕ} {z : Relation} (z′ : Relation) (less : (y : ℕ) → Node r y → y ≢ b → So (z x y) → So (z′ x y)) where
   -- besides what describes x for a relation, what parts x from b describes it without b
-  conj-narrower : {q p : NodeExpr} → Describes s l r c d z x (λ y. y < r .size) q → Parts s l r c d x b p
-      → Describes s l r c d z′ x (λ y. y < r .size) (conj q p)
+  conj-narrower : {q p : NodeExpr} → Describes s l r c d z x (Node r) q → Parts s l r c d x b p → Describes s l r c d z′ x (Node r) (conj q p)
   conj-narrower t p =
-      conj-describes {A = λ y. (y < r .size) × (y ≢ b)} (λ y u. ⊎-elim inr (λ e. inl (u, e)) (eq-or-ne y b))
-      (describes-more (le-refl d) refl (λ y u. (u .0, less y (u .0) (u .1))) t) (parts-describes z′ p)
+      conj-describes {A = λ y. Node r y × (y ≢ b)} {B = λ y. y ≡ b} (λ y u. ⊎-elim inr (λ e. inl (u, e)) (eq-or-ne y b))
+      (describes-more (le-refl d) refl (λ y u. (u .0, less y (u .0) (u .1))) t) (parts-describes z′ (λ y e. e) p)
 
   -- and alone, where always true describes x
-  parts-narrower : {p : NodeExpr} → Describes s l r c d z x (λ y. y < r .size) always → Parts s l r c d x b p
-      → Describes s l r c d z′ x (λ y. y < r .size) p
+  parts-narrower : {p : NodeExpr} → Describes s l r c d z x (Node r) always → Parts s l r c d x b p → Describes s l r c d z′ x (Node r) p
   parts-narrower t p =
       record {
         within = p .tells .within;
         spoken = p .tells .spoken;
         shallow = p .shallow;
         own = p .tells .left;
-        only = λ y u e. less y u (λ v. false≢true (sym (p .tells .right) ∙ (rw v at e))) (t .only y u (always-holds r y u));
+        only = λ y u e. less y u (λ v. false≢true (sym (p .tells .right) ∙ (rw v at e))) (t .only y u (always-holds r y (u .below)));
       }
 
-module _ {s : Setting} {d x b : ℕ} {z : Relation} (z′ : Relation) (less : (y : ℕ) → y < s .right .size → y ≢ b → So (z x y) → So (z′ x y)) where
+module _ {s : Setting} {d x b : ℕ} {z : Relation} (z′ : Relation) (less : (y : ℕ) → Node (s .right) y → y ≢ b → So (z x y) → So (z′ x y)) where
   conjoined-describes : {es : List Entry} (i j : ℕ) → Sheet (s .version) (s .bound) es → i < length es → j < length es
-      → DescribesNode s d z x (λ y. y < s .right .size) (expression es i) → PartsPair s d x b (expression es j) → Conjoined s d z′ x es i j
+      → DescribesNode s d z x (Node (s .right)) (expression es i) → PartsPair s d x b (expression es j) → Conjoined s d z′ x es i j
   unfolding conjoined conjoint spell sizeOf
   conjoined-describes {es} zero j w h h′ t p =
       record {
@@ -119,20 +118,24 @@ record Puts (s : Setting) (d a b : ℕ) (es : List Entry) (e : Entry) : Type 0 w
   parts : PartsPair s d a b (spell (expressions es) e)
 
 -- So does the entry that puts a reason.
-reasonEntry-puts : {s : Setting} {k a b : ℕ} {z : Relation} {es : List Entry} {xs : List ℕ} → WellFormed (s .left) → Narrow (s .version) (s .left) → s .bound ≤ mostBound
-    → a < s .left .size → Sheet (s .version) (s .bound) es → DescribedBy s k z es xs → (why : Reason) → Fails (s .left) (s .right) (s .bound) z a b why
+reasonEntry-puts : {s : Setting} {k a b : ℕ} {z : Relation} {es : List Entry} {xs : List ℕ} → WellFormed (s .left) → WellFormed (s .right)
+    → Narrow (s .version) (s .left) → s .bound ≤ mostBound → a < s .left .size → Sheet (s .version) (s .bound) es → DescribedBy s k z es xs → (why : Reason) → Fails (s .left) (s .right) (s .bound) z a b why
     → Puts s (suc k) a b es (reasonEntry xs why)
-reasonEntry-puts {s} {k} {a} {b} {z} {es} {xs} w narrow small o sheet t why f =
+reasonEntry-puts {s} {k} {a} {b} {z} {es} {xs} w w′ narrow small o sheet t why f =
     record {
       fit = fit-reasonEntry w narrow (length es) xs (sheet .some) (t .earlier) (s .right) (s .bound) z a b why f;
       size = size-reasonEntry xs (s .version) (s .left) (s .right) (s .bound) z a b why small f;
-      parts = rw spell-reasonEntry (parting w (t .describes) why a b o f);
+      parts = rw spell-reasonEntry (parting w w′ (t .describes) why a b o f);
     }
 
 -- ---- the step
 
 module _ {s : Setting} {k a b : ℕ} {now : State} (g : Comparable s) (inv : Refined s k (a * s .right .size + b) now) (o : a < s .left .size)
     (u : b < s .right .size) (e : So (relationAfter s k a b)) where
+  -- the pair is one of nodes
+  ends : Node (s .left) a × Node (s .right) b
+  ends = after-inside (s .sides) (s .bound) (g .formed .0) (g .formed .1) k a b e
+
   -- the entry i of es, behind those that there were, parts a from b
   module _ {es : List Entry} (sheet : Sheet (s .version) (s .bound) es) (grows : Grows (now .entries) es) (i : ℕ) (h : i < length es)
       (p : PartsPair s (suc k) a b (expression es i)) where
@@ -149,7 +152,7 @@ module _ {s : Setting} {k a b : ℕ} {now : State} (g : Comparable s) (inv : Ref
     -- added to what describes a
     jl : Conjoined s (suc k) z′ a es (getD (now .newLeft) a 0) i
     jl =
-        conjoined-describes z′ (λ y v q. still a y (λ w. q (place-column _ a y a b v u w))) _ i sheet (left .earlier a o) h (left .describes a o) p
+        conjoined-describes z′ (λ y v q. still a y (λ w. q (place-column _ a y a b (v .below) u w))) _ i sheet (left .earlier a o) h (left .describes a (ends .0)) p
 
     -- and j, which parts b from a, to what describes b
     module _ (both : s .sides ≡ twoSided) (j : ℕ) (h′ : j < length es) (p′ : PartsPair (swapped s) (suc k) b a (expression es j)) where
@@ -164,7 +167,7 @@ module _ {s : Setting} {k a b : ℕ} {now : State} (g : Comparable s) (inv : Ref
       unfolding es′
       jr =
           conjoined-describes (flip z′) (λ x v q. still x b (λ w. q (place-row _ x b a b u u w))) _ j (jl .sheet) (right .earlier b u)
-          (omega (arith, jl .grows .longer)) (right .describes b u) (rw (jl .grows .same j h′) p′)
+          (omega (arith, jl .grows .longer)) (right .describes b (ends .1)) (rw (jl .grows .same j h′) p′)
 
   -- one-sided: an entry that parts a from b
   write-one : s .sides ≡ oneSided → (d : Entry) (j : ℕ) → Puts s (suc k) a b (now .entries) d
@@ -224,7 +227,7 @@ module _ {s : Setting} {k a b : ℕ} {now : State} (g : Comparable s) (inv : Ref
   ahead-refined why f v = by (s .sides) refl
     where
       t : Puts s (suc k) a b (now .entries) (reasonEntry (now .oldLeft) why)
-      t = reasonEntry-puts (g .formed .0) (g .narrow .0) (g .bound) o (inv .sheet) (inv .oldLeft) why f
+      t = reasonEntry-puts (g .formed .0) (g .formed .1) (g .narrow .0) (g .bound) o (inv .sheet) (inv .oldLeft) why f
 
       by : (x : Sides) → s .sides ≡ x → Refined s k (suc (a * s .right .size + b)) (part x (s .right .size) a b (ahead why) now)
       by oneSided one = write-one one _ _ t (rw (e, v, one))
@@ -241,7 +244,7 @@ module _ {s : Setting} {k a b : ℕ} {now : State} (g : Comparable s) (inv : Ref
   unfolding part settle obey
   back-refined both why f v =
       let n = length (now .entries) in
-      let t = reasonEntry-puts {s = swapped s} (g .formed .1) (g .narrow .1) (g .bound) u (inv .sheet) (inv .oldRight both) why f in
+      let t = reasonEntry-puts {s = swapped s} (g .formed .1) (g .formed .0) (g .narrow .1) (g .bound) u (inv .sheet) (inv .oldRight both) why f in
       let d = withDenial-denied (reasonEntry (now .oldRight) why) (inv .sheet) (t .fit) in
       subst (λ x. Refined s k (suc (a * s .right .size + b)) (part x (s .right .size) a b (back why) now)) (sym both)
       (write-both both _ (suc n) n d (t .size) (omega arith) (omega arith) (omega arith) (rw (d .second) (part-back both (t .parts))) (rw (d .first) (t .parts))

@@ -1,18 +1,22 @@
 -- What each function of the crate shows of the definitions of `specs/`, in the form in which `search` finds it.
 use mathlib.Core.Bool.{Bool}
 use mathlib.Core.List.{List}
-use mathlib.Core.Path.{_≡_, refl, sym, ap, _∙_}
-use Prim.Native.Nat.{ℕ, _≤_}
+use mathlib.Core.Path.{_≡_, refl, sym, ap, ap₂, _∙_}
+use Prim.Native.Nat.{ℕ, _*_, _≤_}
+use native.Mathlib.Nat.{mul-le-mul-right}
 use native.Mathlib.Omega.{arith}
 use borrow.Author.Tests.{eq-eqb, ne-eqb}
 use mir.Syntax.{w8}
 use mir.Val.{Fits}
 use lib.ListN.{length, getD, replicate}
 use lib.Seq.{length-sets}
+use Rattle.theory.specs.Search.{list}
 use Rattle.theory.specs.Bisimulation.{sidesOf}
 use Rattle.theory.specs.Graph.{same, differ}
 use Rattle.theory.specs.TestLaws.{never}
-use Rattle.book.specs.Book.{versionOf, cellsOf, linksOf, bookRefusal}
+use Rattle.book.specs.declared.Hidden.{Hidden}
+use Rattle.book.specs.Book.{versionOf, cellsOf, bookRefusal}
+use Rattle.book.specs.BookGraph.{showing}
 use Rattle.book.specs.AcceptedLaws.{book-sizes}
 use Rattle.edges.specs.BookEdges.{Loaded, passing}
 use Rattle.search_links.specs.Hops.{Starts}
@@ -23,6 +27,7 @@ use Rattle.sheet.specs.WrittenLaws.{sizeOf}
 use Rattle.sheet_writer.specs.Writing.{PutPlain}
 use Rattle.sheet_writer.specs.WritingLaws.{holding-none, holding-next, kept-after}
 use Rattle.search.specs.BookReasonLaws.{read-charted}
+use Rattle.compare_laws.specs.Places.{startAt, startMap}
 use Rattle.compare_laws.specs.Comparison.{begin, upto, states}
 use Rattle.compare_entries.specs.declared.Pen.{Pen}
 use Rattle.compare_pair.specs.Settling.{chart, Ground, Standing}
@@ -33,15 +38,19 @@ use Rattle.compare_lists.specs.Comparing.{IsRead, Lent, Started, Fills}
 
 -- ---- a book, read
 
-pub read-whole : (s fs ls ts starts ends alike unlike : List ℕ) (count : ℕ) → bookRefusal s ≡ 0 → Loaded s fs ls ts → count ≡ linksOf s
-    → Starts count fs starts → alike ≡ passing s same → unlike ≡ passing s differ → Paired alike unlike ends → IsRead s ls ts starts ends
-read-whole s fs ls ts starts ends alike unlike count r d n t a u p =
-    record { from = fs; read = record { accepted = r; loaded = d; table = rw n at t; rows = rw (a, u) at p } }
+pub read-whole : (h : ℕ) (s fs ls ts starts ends alike unlike : List ℕ) (count : ℕ) → bookRefusal s ≡ 0 → Loaded h s count fs ls ts
+    → Starts count fs starts → alike ≡ passing h s same → unlike ≡ passing h s differ → Paired alike unlike ends → IsRead h s ls ts starts ends
+read-whole h s fs ls ts starts ends alike unlike count r d t a u p =
+    record { count = count; from = fs; read = record { accepted = r; loaded = d; table = t; rows = rw (a, u) at p } }
+
+pub read-few : (h : ℕ) (s fs ls ts : List ℕ) (count : ℕ) → Loaded h s count fs ls ts → count ≤ 512
+read-few h s fs ls ts count d = d .held .few
 
 -- ---- the first entry
 
-module _ {map map′ room room′ : List ℕ} {at v : ℕ} where
-  pub started : 10 ≤ length room → map′ ≡ replicate (length map) 0 → PutPlain room 8 truth room′ at → Started v map map′ room room′ (record { at = at; next = 1; version = v })
+module _ {map map′ room room′ : List ℕ} {at v m : ℕ} {hidden : Hidden} where
+  pub started : 10 ≤ length room → map′ ≡ list (length map) (startAt m (showing (hidden .left)) (showing (hidden .right))) → PutPlain room 8 truth room′ at
+      → Started v m hidden map map′ room room′ (record { at = at; next = 1; version = v })
   unfolding sizeOf
   started h b w =
       record {
@@ -72,38 +81,45 @@ module _ (left right : List ℕ) (v : ℕ) (d : v ≡ versionOf left) where
 
 -- ---- the comparison
 
-module _ {left right : List ℕ} {c : ℕ} {map room : List ℕ} (given : Lent left right c map room) where
+module _ {left right : List ℕ} {c : ℕ} {hidden : Hidden} {map room : List ℕ} (given : Lent left right c hidden map room) where
   pub left-long : 8 ≤ length left
   left-long = book-sizes left (given .leftAccepted) .long
 
   pub right-long : 8 ≤ length right
   right-long = book-sizes right (given .rightAccepted) .long
 
+  -- what the map's start asks for
+  pub map-asked : (m : ℕ) → m ≡ cellsOf right → (10 ≤ length room) × (1 ≤ m) × (m ≤ 64) × (length map ≤ 64 * m)
+  map-asked m d =
+      let l = book-sizes left (given .leftAccepted) in
+      let r = book-sizes right (given .rightAccepted) in
+      (omega (arith, given .roomy), omega (arith, r .some), omega (arith, r .few), rw d (omega (arith, given .places, mul-le-mul-right (cellsOf right) (l .few))))
+
   module _ (both : Bool) where
     -- the lists are those of the books' setting
     ground : {sa la ta ea sb lb tb eb : List ℕ} {n m : ℕ} → ((i : ℕ) → Fits w8 (getD left i 0)) → ((i : ℕ) → Fits w8 (getD right i 0))
-        → IsRead left la ta sa ea → IsRead right lb tb sb eb → n ≡ cellsOf left → m ≡ cellsOf right
-        → Ground (settingOf (sidesOf both) left right c) (chart sa la ta ea) (chart sb lb tb eb) (record { left = n; right = m; bound = c; both = both })
+        → IsRead (hidden .left) left la ta sa ea → IsRead (hidden .right) right lb tb sb eb → n ≡ cellsOf left → m ≡ cellsOf right
+        → Ground (settingOf (sidesOf both) left right c hidden) (chart sa la ta ea) (chart sb lb tb eb) (record { left = n; right = m; bound = c; both = both })
     ground f g x y dn dm =
         record {
-          comparable = books-comparable (sidesOf both) left right c (record { each = λ i. f i .fits }) (record { each = λ i. g i .fits }) (given .leftAccepted) (given .rightAccepted)
+          comparable = books-comparable (sidesOf both) left right c hidden (record { each = λ i. f i .fits }) (record { each = λ i. g i .fits }) (given .leftAccepted) (given .rightAccepted)
               (given .bound);
-          left = read-charted left (x .from) _ _ _ _ (x .read);
-          right = read-charted right (y .from) _ _ _ _ (y .read);
+          left = read-charted (hidden .left) left (x .count) (x .from) _ _ _ _ (x .read);
+          right = read-charted (hidden .right) right (y .count) (y .from) _ _ _ _ (y .read);
           leftSize = dn;
           rightSize = dm;
           bound = refl;
           sides = refl;
         }
 
-    module _ {map′ room′ : List ℕ} {pen : Pen} {v : ℕ} (d : v ≡ sheetVersion left right) (first : Started v map map′ room room′ pen) where
-      standing : Standing (settingOf (sidesOf both) left right c) 0 0 (atRest room′ pen map′ (replicate 128 0))
-      unfolding upto states begin
+    module _ {map′ room′ : List ℕ} {pen : Pen} {v m : ℕ} (d : v ≡ sheetVersion left right) (dm : m ≡ cellsOf right) (first : Started v m hidden map map′ room room′ pen) where
+      standing : Standing (settingOf (sidesOf both) left right c hidden) 0 0 (atRest room′ pen map′ (replicate 128 0))
+      unfolding upto states begin startMap
       standing =
           record {
             shows = record {
               entries = first .penned;
-              places = first .blank ∙ ap (λ n. replicate n 0) (given .places);
+              places = first .blank ∙ ap₂ (λ n m. list n (startAt m (showing (hidden .left)) (showing (hidden .right)))) (given .places) dm;
               oldLeft = refl;
               oldRight = refl;
               newLeft = refl;
@@ -114,15 +130,15 @@ module _ {left right : List ℕ} {c : ℕ} {map room : List ℕ} (given : Lent l
             roomy = rw (first .behind .size) (given .roomy);
           }
 
-      module _ {sa la ta ea sb lb tb eb : List ℕ} {n m : ℕ} (f : (i : ℕ) → Fits w8 (getD left i 0)) (g : (i : ℕ) → Fits w8 (getD right i 0))
-          (x : IsRead left la ta sa ea) (y : IsRead right lb tb sb eb) (dn : n ≡ cellsOf left) (dm : m ≡ cellsOf right) where
+      module _ {sa la ta ea sb lb tb eb : List ℕ} {n : ℕ} (f : (i : ℕ) → Fits w8 (getD left i 0)) (g : (i : ℕ) → Fits w8 (getD right i 0))
+          (x : IsRead (hidden .left) left la ta sa ea) (y : IsRead (hidden .right) right lb tb sb eb) (dn : n ≡ cellsOf left) where
         pub opened : Opens (chart sa la ta ea) (chart sb lb tb eb) (record { left = n; right = m; bound = c; both = both }) noPair (atRest room′ pen map′ (replicate 128 0))
         opened =
-            record { setting = settingOf (sidesOf both) left right c; before = 0; ground = ground f g x y dn dm; standing = standing; known = λ a b o u e. never e }
+            record { setting = settingOf (sidesOf both) left right c hidden; before = 0; ground = ground f g x y dn dm; standing = standing; known = λ a b o u e. never e }
 
         pub filled : {map″ room″ new : List ℕ} {pen′ : Pen}
             → Refines (chart sa la ta ea) (chart sb lb tb eb) (record { left = n; right = m; bound = c; both = both }) (atRest room′ pen map′ (replicate 128 0)) (atRest room″ pen′ map″ new)
-            → Fills both left right c room room″ pen′ map″
+            → Fills both left right c hidden room room″ pen′ map″
         filled t =
             record {
               comparable = ground f g x y dn dm .comparable;

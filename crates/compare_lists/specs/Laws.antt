@@ -1,35 +1,25 @@
 -- Two accepted books can be compared: what the definition of the comparison asks of their graphs.
 use mathlib.Core.Bool.{Bool, true, false, cond, _||_, false≢true}
 use mathlib.Core.List.{List}
-use mathlib.Core.Logic.{⊎-elim}
 use mathlib.Core.Path.{_≡_, refl}
-use Prim.Native.Nat.{ℕ, zero, suc, _^_, _≤_, _<_}
+use Prim.Native.Nat.{ℕ, _^_, _≤_, _<_}
 use native.Mathlib.Omega.{arith}
 use borrow.Author.Tests.{eq-eqb}
 use lib.Dec.{eqb}
 use Rattle.fields.specs.Fields.{Bytes}
 use Rattle.fields.specs.Label.{labelWidth}
 use Rattle.fields.specs.LabelLaws.{label-width}
-use Rattle.theory.specs.Search.{list}
-use Rattle.theory.specs.TestLaws.{facts}
-use Rattle.theory.specs.Graph.{Link, has}
 use Rattle.theory.specs.Bisimulation.{Sides}
-use Rattle.book.specs.Book.{versionOf, linksOf, linkAt, bookRefusal}
-use Rattle.book.specs.BookGraph.{graphOf}
-use Rattle.book.specs.AcceptedLaws.{book-sizes, book-graph}
-use Rattle.book.specs.VersionLaws.{label-fits}
+use Rattle.book.specs.declared.Hidden.{Hidden}
+use Rattle.book.specs.Book.{versionOf, bookRefusal}
+use Rattle.book.specs.BookGraph.{seenOf}
+use Rattle.book.specs.AcceptedLaws.{book-sizes}
+use Rattle.book.specs.SeenLaws.{seen-graph, seen-label}
 use Rattle.sheet.specs.Sheet.{mostVersion, mostBound}
 use Rattle.search.specs.BookReasonLaws.{passes-symmetric}
 use Rattle.compare_laws.specs.Entries.{Narrow}
 use Rattle.compare_laws.specs.Refining.{Comparable}
 use Rattle.compare_lists.specs.BookSetting.{sheetVersion, settingOf}
-
--- a label that all of some links are below
-label-below : (n : ℕ) (f : ℕ → Link) (most : ℕ) → ((i : ℕ) → f i .label < most) → (x a y : ℕ) → has (list n f) x a y ≡ true → a < most
-unfolding has list
-label-below zero f most h x a y e = absurd (false≢true e)
-label-below (suc n) f most h x a y e =
-    ⊎-elim (λ u. let (_, (l, _)) = simp facts at u in rw (← l) (h 0)) (λ u. label-below n (λ i. f (suc i)) most (λ i. h (suc i)) x a y u) (simp facts at e)
 
 -- ---- the version of the sheet
 
@@ -69,15 +59,15 @@ module _ (l r : List ℕ) where
       room-for (versionOf r) a (h .version) (h .latest) (eqb (versionOf l) 2 || eqb (versionOf r) 2) (λ d. rw (eq-eqb (versionOf r) 2 d) (or-true (eqb (versionOf l) 2)))
 
 -- the labels of a book have room in a sheet that has room for the labels of its version
-narrow : (s : List ℕ) (v : ℕ) → Bytes s → ((a : ℕ) → a < 256 ^ labelWidth (versionOf s) → a < 256 ^ labelWidth v) → Narrow v (graphOf s)
-narrow s v b f = record { label = λ x a y e. f a (label-below (linksOf s) (linkAt s) _ (label-fits s b) x a y e) }
+narrow : (h : ℕ) (s : List ℕ) (v : ℕ) → Bytes s → ((a : ℕ) → a < 256 ^ labelWidth (versionOf s) → a < 256 ^ labelWidth v) → Narrow v (seenOf h s)
+narrow h s v b f = record { label = λ x a y e. f a (seen-label h s b x a y e) }
 
-pub books-comparable : (x : Sides) (l r : List ℕ) (c : ℕ) → Bytes l → Bytes r → bookRefusal l ≡ 0 → bookRefusal r ≡ 0 → c ≤ mostBound → Comparable (settingOf x l r c)
-books-comparable x l r c bl br el er h =
+pub books-comparable : (x : Sides) (l r : List ℕ) (c : ℕ) (hidden : Hidden) → Bytes l → Bytes r → bookRefusal l ≡ 0 → bookRefusal r ≡ 0 → c ≤ mostBound → Comparable (settingOf x l r c hidden)
+books-comparable x l r c hidden bl br el er h =
     record {
-      formed = (book-graph l el, book-graph r er);
+      formed = (seen-graph (hidden .left) l el, seen-graph (hidden .right) r er);
       symmetric = (λ t x y. passes-symmetric t _ _, λ t x y. passes-symmetric t _ _);
-      narrow = (narrow l _ bl (sheet-left l r el), narrow r _ br (sheet-right l r er));
+      narrow = (narrow (hidden .left) l _ bl (sheet-left l r el), narrow (hidden .right) r _ br (sheet-right l r er));
       version = sheet-known l r;
       some = (book-sizes l el .some, book-sizes r er .some);
       small = (book-sizes l el .few, book-sizes r er .few);

@@ -1,32 +1,33 @@
 // Two accepted books compared into lent lists: the books are read into arrays once, the first entry is written, and rounds are taken until one parts no
 // pair.
 ghost use mathlib.Core.Path.{_≡_};
-ghost use Prim.Native.Nat.{_≤_};
+ghost use Prim.Native.Nat.{_*_, _≤_};
 ghost use lib.ListN.{length};
 ghost use Rattle.book.specs.Book.{bookRefusal};
 ghost use Rattle.compare_lists.specs.BookSetting.{sheetVersion};
 ghost use Rattle.compare_lists.specs.Comparing.{IsRead, Lent, Started, Fills};
+use book::Hidden;
 use compare_entries::Pen;
 use compare_pair::Sizes;
 
-// Reads an accepted book: the labels of its links and the cells that they lead to, where the links out of each cell begin, and for each cell the cells that
+// Reads an accepted book, seen through a word: the labels of its links and the cells that they lead to, where the links out of each cell begin, and for each cell the cells that
 // pass each comparison with it.
 fn read(
     book: &[u8],
+    hidden: u64,
     starts: &mut [u16; 65],
     labels: &mut [u16; 512],
     to: &mut [u8; 512],
     ends: &mut [u64; 128],
 )
     requires { ⌜ (bookRefusal (now book) ≡ 0) × (length (now labels) ≡ 512) × (length (now to) ≡ 512) ⌝ }
-    ensures { λ _. ⌜ IsRead (now (book .entry)) (now (labels .exit)) (now (to .exit)) (now (starts .exit)) (now (ends .exit)) ⌝ }
+    ensures { λ _. ⌜ IsRead hidden (now (book .entry)) (now (labels .exit)) (now (to .exit)) (now (starts .exit)) (now (ends .exit)) ⌝ }
 {
     let mut from = [0u8; 512];
-    edges::load(book, &mut from, labels, to);
-    let count = book::links_of(book);
+    let count = edges::load(book, hidden, &mut from, labels, to);
     *starts = search_links::starts(count, &from);
-    let same = edges::passing(book, edges::Comparison::Same);
-    let differ = edges::passing(book, edges::Comparison::Differ);
+    let same = edges::passing(book, hidden, edges::Comparison::Same);
+    let differ = edges::passing(book, hidden, edges::Comparison::Differ);
     *ends = search_links::paired(&same, &differ);
 }
 
@@ -44,12 +45,12 @@ pub fn sheet_version(left: &[u8], right: &[u8]) -> u8
     1
 }
 
-// Writes the first entry, always true, and clears the map.
-fn begin(map: &mut [u16], room: &mut [u8], version: u8) -> Pen
-    requires { ⌜ 10 ≤ length (now room) ⌝ }
-    ensures { λ r. ⌜ Started version (now (map .entry)) (now (map .exit)) (now (room .entry)) (now (room .exit)) r ⌝ }
+// Writes the first entry, always true, and makes the map, m places a row, what it is before the first round.
+fn begin(map: &mut [u16], m: usize, hidden: Hidden, room: &mut [u8], version: u8) -> Pen
+    requires { ⌜ (10 ≤ length (now room)) × (1 ≤ m) × (m ≤ 64) × (length (now map) ≤ 64 * m) ⌝ }
+    ensures { λ r. ⌜ Started version m hidden (now (map .entry)) (now (map .exit)) (now (room .entry)) (now (room .exit)) r ⌝ }
 {
-    compare_map::clear_map(map);
+    compare_map::start_map(map, m, hidden);
     let at = sheet_writer::put_true(room, 8);
     Pen {
         at,
@@ -64,23 +65,24 @@ pub fn fill(
     left: &[u8],
     right: &[u8],
     bound: u8,
+    hidden: Hidden,
     both: bool,
     map: &mut [u16],
     room: &mut [u8],
 ) -> Pen
-    requires { ⌜ Lent (now left) (now right) bound (now map) (now room) ⌝ }
-    ensures { λ r. ⌜ Fills both (now (left .entry)) (now (right .entry)) bound (now (room .entry)) (now (room .exit)) r (now (map .exit)) ⌝ }
+    requires { ⌜ Lent (now left) (now right) bound hidden (now map) (now room) ⌝ }
+    ensures { λ r. ⌜ Fills both (now (left .entry)) (now (right .entry)) bound hidden (now (room .entry)) (now (room .exit)) r (now (map .exit)) ⌝ }
 {
     let mut sa = [0u16; 65];
     let mut la = [0u16; 512];
     let mut ta = [0u8; 512];
     let mut ea = [0u64; 128];
-    read(left, &mut sa, &mut la, &mut ta, &mut ea);
+    read(left, hidden.left, &mut sa, &mut la, &mut ta, &mut ea);
     let mut sb = [0u16; 65];
     let mut lb = [0u16; 512];
     let mut tb = [0u8; 512];
     let mut eb = [0u64; 128];
-    read(right, &mut sb, &mut lb, &mut tb, &mut eb);
+    read(right, hidden.right, &mut sb, &mut lb, &mut tb, &mut eb);
     let n = book::cells_of(left);
     let m = book::cells_of(right);
     let version = sheet_version(left, right);
@@ -90,7 +92,7 @@ pub fn fill(
         bound,
         both,
     };
-    let pen = begin(map, room, version);
+    let pen = begin(map, m, hidden, room, version);
     let mut new = [0u16; 128];
     compare_rounds::refine(
         &sa,

@@ -4,21 +4,25 @@ use mathlib.Core.Bool.{Bool, false, So}
 use mathlib.Core.List.{List, _∷_}
 use mathlib.Core.Logic.{⊎-elim}
 use mathlib.Core.Path.{_≡_, refl, sym, ap, _∙_}
-use Prim.Native.Nat.{ℕ, zero, suc, _+_, _-_, _^_, _≤_, _<_}
-use native.Mathlib.Nat.{eq-or-lt-of-le}
+use Prim.Native.Nat.{ℕ, zero, suc, _+_, _-_, _*_, _/_, _%_, _^_, _≤_, _<_}
+use native.Mathlib.Nat.{eq-or-lt-of-le, mod-lt}
 use native.Mathlib.Numerals.{add-one}
 use native.Mathlib.Omega.{arith}
 use lib.Bits.{bitOr}
 use lib.ListN.{length, getD, set, drop, replicate, length-set, length-replicate, getD-replicate}
 use lib.Seq.{drop-cons, drop-length, ext-getD, getD-set-same, getD-set-other}
+use Rattle.theory.specs.Search.{list}
+use Rattle.theory.specs.TestLaws.{list-at, length-list}
 use Rattle.words.specs.Words.{bit, wordOf}
 use Rattle.words.specs.Laws.{word-in, word-out}
+use Rattle.book.specs.BookGraph.{showing}
+use Rattle.sheet.specs.Sheet.{hiddenPlace}
 use Rattle.edges.specs.Edges.{emptyRows}
 use Rattle.edges.specs.Laws.{rows-none, rows-more}
 use Rattle.answers.specs.Row.{rowWord, rowAnswer, wordIn}
 use Rattle.answers.specs.RowLaws.{row-given}
-use Rattle.compare_laws.specs.Places.{zeros}
-use Rattle.compare_laws.specs.PlaceLaws.{place-below}
+use Rattle.compare_laws.specs.Places.{startAt, zeros}
+use Rattle.compare_laws.specs.PlaceLaws.{place-below, row-below}
 use Rattle.compare_map.specs.Relation.{Mapped, rowsOf, columnOf, columnsOf}
 
 -- ---- the rows
@@ -99,27 +103,62 @@ zeros-all map k count inv h l =
     let t = rw (e, drop-length map) at inv in
     omega arith
 
--- ---- a list cleared from the front
+-- ---- a list made from the front
 
--- The first n numbers are there, and are 0.
-pub record Blank (n : ℕ) (xs : List ℕ) : Type 0 where
+-- The first n numbers are there, and are what f gives.
+pub record Made (f : ℕ → ℕ) (n : ℕ) (xs : List ℕ) : Type 0 where
   pub wide : n ≤ length xs
-  pub zero : (x : ℕ) → x < n → getD xs x 0 ≡ 0
+  pub each : (x : ℕ) → x < n → getD xs x 0 ≡ f x
 
-pub blank-none : (xs : List ℕ) → Blank 0 xs
-blank-none xs = record { wide = omega arith; zero = λ x h. absurd (omega arith) }
+module _ (f : ℕ → ℕ) where
+  pub made-none : (xs : List ℕ) → Made f 0 xs
+  made-none xs = record { wide = omega arith; each = λ x h. absurd (omega arith) }
 
-pub blank-more : (k : ℕ) (xs : List ℕ) → Blank k xs → k < length xs → Blank (k + 1) (set xs k 0)
-blank-more k xs b h =
-    record {
-      wide = rw length-set (omega arith);
-      zero = λ x l. ⊎-elim
-          (λ e. rw e (getD-set-same xs k 0 0 h))
-          (λ o. getD-set-other xs k x 0 0 (λ e. omega arith) ∙ b .zero x o)
-          (eq-or-lt-of-le (omega arith));
-    }
+  pub made-more : (k : ℕ) (xs : List ℕ) → Made f k xs → k < length xs → (v : ℕ) → v ≡ f k → Made f (k + 1) (set xs k v)
+  made-more k xs b h v d =
+      record {
+        wide = rw length-set (omega arith);
+        each = λ x l. ⊎-elim
+            (λ e. rw e (getD-set-same xs k v 0 h ∙ d))
+            (λ o. getD-set-other xs k x v 0 (λ e. omega arith) ∙ b .each x o)
+            (eq-or-lt-of-le (omega arith));
+      }
 
-pub blank-all : (k : ℕ) (xs xs₀ : List ℕ) → Blank k xs → length xs ≡ length xs₀ → length xs ≤ k → xs ≡ replicate (length xs₀) 0
-blank-all k xs xs₀ b e h =
-    ext-getD 0 xs (replicate (length xs₀) 0) (e ∙ sym (length-replicate (length xs₀) 0))
-    (λ i l. b .zero i (omega arith) ∙ sym (getD-replicate (length xs₀) i 0 0 (omega arith)))
+  pub made-all : (k : ℕ) (xs xs₀ : List ℕ) → Made f k xs → length xs ≡ length xs₀ → length xs ≤ k → xs ≡ list (length xs₀) f
+  made-all k xs xs₀ b e h =
+      ext-getD 0 xs (list (length xs₀) f) (e ∙ sym (length-list (length xs₀) f))
+      (λ i l. b .each i (omega arith) ∙ sym (list-at (length xs₀) f i 0 (omega arith)))
+
+-- zeros
+pub zero-more : (k : ℕ) (xs : List ℕ) → Made (λ x. 0) k xs → k < length xs → Made (λ x. 0) (k + 1) (set xs k 0)
+zero-more k xs b h = made-more (λ x. 0) k xs b h 0 refl
+
+pub zero-all : (k : ℕ) (xs xs₀ : List ℕ) → Made (λ x. 0) k xs → length xs ≡ length xs₀ → length xs ≤ k → xs ≡ replicate (length xs₀) 0
+zero-all k xs xs₀ b e h = made-all (λ x. 0) k xs xs₀ b e h ∙ zeros-listed (length xs₀)
+  where
+    zeros-listed : (n : ℕ) → list {A = ℕ} n (λ x. 0) ≡ replicate n 0
+    zeros-listed n = ext-getD 0 _ _ (length-list n _ ∙ sym (length-replicate n 0))
+        (λ i l. let o : i < n = rw (← length-list {A = ℕ} n (λ x. 0)) l in list-at n _ i 0 o ∙ sym (getD-replicate n i 0 0 o))
+
+-- ---- a place before the first round
+
+module _ (k m : ℕ) (p : 1 ≤ m) (q : m ≤ 64) (h : k < 64 * m) where
+  pub row-low : k / m < 64
+  row-low = row-below 64 m k h
+
+  pub column-low : k % m < 64
+  column-low = omega (arith, mod-lt k p)
+
+module _ (k m v w : ℕ) (a : Bool) (d : a ≡ bit v (k / m)) where
+  pub start-left : So a → hiddenPlace ≡ startAt m (showing v) (showing w) k
+  unfolding startAt
+  start-left e = rw (← d, e)
+
+  module _ (f : a ≡ false) (b : Bool) (d′ : b ≡ bit w (k % m)) where
+    pub start-right : So b → hiddenPlace ≡ startAt m (showing v) (showing w) k
+    unfolding startAt
+    start-right e = rw (← d, ← d′, f, e)
+
+    pub start-zero : b ≡ false → 0 ≡ startAt m (showing v) (showing w) k
+    unfolding startAt
+    start-zero e = rw (← d, ← d′, f, e)

@@ -1,9 +1,12 @@
-// The map of a comparison: cleared, counted, and read as a relation in words. A relation of left and right cells is a row a left cell: the
+// The map of a comparison: begun, counted, and read as a relation in words. A relation of left and right cells is a row a left cell: the
 // set of the right cells that are related to it.
 ghost use mathlib.Core.Path.{_≡_};
-ghost use Prim.Native.Nat.{_≤_, _<_};
+ghost use Prim.Native.Nat.{_*_, _≤_, _<_};
 ghost use lib.ListN.{length, replicate};
-ghost use Rattle.compare_laws.specs.Places.{zeros};
+ghost use Rattle.theory.specs.Search.{list};
+ghost use Rattle.book.specs.BookGraph.{showing};
+ghost use Rattle.compare_laws.specs.Places.{startAt, zeros};
+use book::Hidden;
 ghost use Rattle.compare_map.specs.Relation.{Mapped, rowsOf, columnOf, columnsOf};
 
 // The relation that a map of n left and m right cells tells: row i has the right cells j whose place i × m + j holds 0. The rows from n on
@@ -66,13 +69,30 @@ pub fn zeros(map: &[u16]) -> usize
     count
 }
 
-// Sets every place of the map to 0.
-pub fn clear_map(map: &mut [u16])
-    ensures { λ _. ⌜ now (map .exit) ≡ replicate (length (now (map .entry))) 0 ⌝ }
+// What place k of a map, m places a row, holds before the first round: 0, or 65,535 where a cell of its pair is hidden.
+fn start_at(k: usize, m: usize, hidden: Hidden) -> u16
+    requires { ⌜ (1 ≤ m) × (m ≤ 64) × (k < 64 * m) ⌝ }
+    ensures { λ r. ⌜ r ≡ startAt m (showing (hidden .left)) (showing (hidden .right)) k ⌝ }
+{
+    let i = (k / m) as u8;
+    if words::has(hidden.left, i) {
+        return sheet::HIDDEN_PLACE;
+    }
+    let j = (k % m) as u8;
+    if words::has(hidden.right, j) {
+        return sheet::HIDDEN_PLACE;
+    }
+    0
+}
+
+// Makes the map what it is before the first round, for n left and m right cells.
+pub fn start_map(map: &mut [u16], m: usize, hidden: Hidden)
+    requires { ⌜ (1 ≤ m) × (m ≤ 64) × (length (now map) ≤ 64 * m) ⌝ }
+    ensures { λ _. ⌜ now (map .exit) ≡ list (length (now (map .entry))) (startAt m (showing (hidden .left)) (showing (hidden .right))) ⌝ }
 {
     let mut k = 0;
     while k < map.len() {
-        map[k] = 0;
+        map[k] = start_at(k, m, hidden);
         k += 1;
     }
 }

@@ -53,8 +53,8 @@ module _ {g : Graph} {v : View} {ends : List ℕ} (drawn : Drawn g v ends) where
   near-path w (suc d) (h ∷ p) a s k o e =
       let i = near-path w d p (h .to) (le-of-suc-le-suc s) (k .1) (linked-inside (drawn .formed) a (h .label) (h .to) (k .0)) e in
       let b : So (bit (behind (v .starts) (v .to) (g .size) (nearby w d)) a) =
-          bit-wordOf-lt (g .size) (leadsTo (v .starts) (v .to) (nearby w d)) a o
-          ∙ linked-leads g v (nearby w d) a h (drawn .hops a (omega (arith, drawn .small))) (k .0) i in
+      bit-wordOf-lt (g .size) (leadsTo (v .starts) (v .to) (nearby w d)) a o
+      ∙ linked-leads g v (nearby w d) a h (drawn .hops a (omega (arith, drawn .small))) (k .0) i in
       bit-or (nearby w d) (behind (v .starts) (v .to) (g .size) (nearby w d)) a ∙ or-iff (bit (nearby w d) a) _ .1 (inr b)
 
   -- a node whose row is another is one that changed, and so are those near it

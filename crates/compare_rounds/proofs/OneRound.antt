@@ -134,14 +134,14 @@ module _ {l r : Chart} {z : Sizes} where
       module _ {rows after : List ℕ} (dr : rows ≡ rowsOf map (z .left) (z .right)) (da : after ≡ rowsOf map′ (z .left) (z .right)) where
         left-calm : bit (nearTo (l .view .starts) (l .view .to) (z .left) (changed rows after (z .left)) (reachOf (z .bound))) a ≡ false → Calm a b
         left-calm far x y n m e =
-            let v = after-inside (s .sides) (s .bound) (g .comparable .formed .0) (g .comparable .formed .1) k x y e .1 in
+            let v = after-inside (s .sides) (s .bound) (g .comparable .formed .0) (g .comparable .formed .1) k x y e .1 .below in
             sym (near-same (g .left .drawn) (s .right .size) (relationAfter s k) (relationAfter s (suc k)) (rows-told s k g t rows dr)
             (rows-told s (suc k) g t′ after da) (reachOf (s .bound)) a o (rw (← g .leftSize, ← g .bound) far) x y n v) ∙ e
 
         right-calm : {columns across : List ℕ} → columns ≡ columnsOf rows (z .left) (z .right) → across ≡ columnsOf after (z .left) (z .right)
             → bit (nearTo (r .view .starts) (r .view .to) (z .right) (changed columns across (z .right)) (reachOf (z .bound))) b ≡ false → Calm a b
         right-calm {columns} {across} dc dx far x y n m e =
-            let v = after-inside (s .sides) (s .bound) (g .comparable .formed .0) (g .comparable .formed .1) k x y e .0 in
+            let v = after-inside (s .sides) (s .bound) (g .comparable .formed .0) (g .comparable .formed .1) k x y e .0 .below in
             sym (near-same (g .right .drawn) (s .left .size) (flip (relationAfter s k)) (flip (relationAfter s (suc k))) (columns-told s k g t rows dr columns dc)
             (columns-told s (suc k) g t′ after da across dx) (reachOf (s .bound)) b u (rw (← g .rightSize, ← g .bound) far) y x m v) ∙ e
 

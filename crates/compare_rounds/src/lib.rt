@@ -116,7 +116,22 @@ pub fn refine(
         right: all,
     };
     loop {
-        let turn = round(sa, la, ta, ea, sb, lb, tb, eb, room, p, map, new, sizes, live);
+        let turn = round(
+            sa,
+            la,
+            ta,
+            ea,
+            sb,
+            lb,
+            tb,
+            eb,
+            room,
+            p,
+            map,
+            new,
+            sizes,
+            live,
+        );
         let q = turn.pen;
         if q.next == p.next {
             return q;

@@ -1,4 +1,5 @@
--- Worked comparisons, computed: one-way (02, 2026-03), which left cells are covered by which right ones; and with silent cells (02, 2026-04).
+-- Worked comparisons, computed: one-way (02, 2026-03), which left cells are covered by which right ones; with silent cells (02, 2026-04), and with
+-- hidden ones (02, 2026-07).
 use mathlib.Core.Bool.{Bool, true, false}
 use mathlib.Core.List.{List, [], _∷_, map}
 use mathlib.Core.Path.{_≡_, refl}
@@ -14,7 +15,8 @@ use Rattle.theory.specs.Rounds.{Table, follow, met, twoPaths, oneLink, zigs, za
 use Rattle.theory.specs.Parting.{byPaths}
 use Rattle.theory.specs.Choosing.{some, orElse, when, firstIn, pathsOf, linkChoice, pairChoice, lengthsChoice, totalChoice, pathsChoice, chosen}
 use Rattle.book.specs.Book.{recordingAt, linkIn, linkAt}
-use Rattle.book.specs.BookGraph.{heard, passes, graphOf}
+use Rattle.words.specs.Words.{bit}
+use Rattle.book.specs.BookGraph.{heard, passes, graphOf, clear, kept, seenRecording, seenOf}
 use Rattle.book.specs.Examples.{leftBook, rightBook}
 
 -- Two graphs, a bound and the sides that count, and what they relate.
@@ -48,7 +50,7 @@ stopping = dataGraph 4 (link 0 1 1 ∷ link 0 1 2 ∷ link 1 2 3 ∷ []) (λ _. 
 
 -- A graph with these recordings, compared as a book's are.
 abbrev spoken : ℕ → List Link → List ℕ → Graph
-spoken size links recordings = record { size = size; links = links; ends = λ t x y. passes t (getD recordings x 0) (getD recordings y 0) }
+spoken size links recordings = record { size = size; shown = λ x. true; links = links; ends = λ t x y. passes t (getD recordings x 0) (getD recordings y 0) }
 
 -- The comparisons.
 unfoldable pub rows : List Row
@@ -69,12 +71,14 @@ rows =
     ∷ row twoSided (spoken 1 [] (0 ∷ [])) (spoken 1 [] (0 ∷ [])) 0 ((y ∷ []) ∷ [])
     ∷ row oneSided (spoken 1 [] (0 ∷ [])) (spoken 1 [] (5 ∷ [])) 0 ((y ∷ []) ∷ [])
     ∷ row oneSided (spoken 2 (link 0 1 1 ∷ []) (5 ∷ 5 ∷ [])) (spoken 2 (link 0 1 1 ∷ []) (5 ∷ 0 ∷ [])) 1 ((n ∷ n ∷ []) ∷ (y ∷ n ∷ []) ∷ [])
+    -- A without all cells but the first of each book, which then have no links
+    ∷ row twoSided (seenOf 6 leftBook) (seenOf 2 rightBook) 1 ((y ∷ n ∷ []) ∷ (n ∷ n ∷ []) ∷ (n ∷ n ∷ []) ∷ [])
     ∷ row twoSided stopping straight 1 ((n ∷ n ∷ n ∷ []) ∷ (n ∷ y ∷ n ∷ []) ∷ (n ∷ n ∷ y ∷ []) ∷ (n ∷ n ∷ y ∷ []) ∷ [])
     ∷ []
 
 -- Every table is the one wanted.
 pub rows-hold : map (λ (r : Row). settled (r .sides) (r .left) (r .right) (r .bound)) rows ≡ map (λ (r : Row). r .wanted) rows
-unfolding rows leftBook rightBook recordingAt linkAt linkIn labelWidth field settled rounds round table zigs zags oneLink twoPaths comparisons met follow any every list out has paths onward end compared heard passes
+unfolding rows leftBook rightBook clear kept seenRecording bit recordingAt linkAt linkIn labelWidth field settled rounds round table zigs zags oneLink twoPaths comparisons met follow any every list out has paths onward end compared heard passes
 rows-hold = refl
 
 -- A cell with a sound is told from a silent one at bound 0 by "same: stay, stay".

@@ -1,23 +1,24 @@
 -- What each turn and each way out of the functions that read a book shows of the definitions of `specs/`, as in `Laws`.
-use mathlib.Core.Bool.{Bool, false, So}
-use mathlib.Core.Path.{_≡_, refl, ap, _∙_}
-use mathlib.Core.List.{List}
-use mathlib.Core.Logic.{⊎-elim}
-use Prim.Native.Nat.{ℕ, _+_, _^_, _≤_, _<_}
-use native.Mathlib.Nat.{eq-or-lt-of-le}
+use mathlib.Core.Bool.{Bool, true, false, So, not, cond}
+use mathlib.Core.Path.{_≡_, refl, sym, ap, ap₂, _∙_}
+use mathlib.Core.List.{List, [], _∷_, _++_, append-nil}
+use Prim.Native.Nat.{ℕ, zero, suc, _+_, _^_, _≤_, _<_}
+use native.Mathlib.Nat.{le-of-suc-le-suc}
 use native.Mathlib.Omega.{arith}
 use lib.Bits.{bitOr}
-use lib.ListN.{length, set, length-set}
+use lib.ListN.{length, getD, set, length-set}
 use lib.Seq.{getD-set-same, getD-set-other}
+use Rattle.theory.specs.Search.{list}
 use Rattle.theory.specs.TestLaws.{list-ext}
-use Rattle.theory.specs.Graph.{Comparison, same, differ}
+use Rattle.theory.specs.Graph.{Comparison, same, differ, Link, Inside}
 use Rattle.words.specs.Words.{wordOf}
 use Rattle.words.specs.Laws.{word-in, word-out}
-use Rattle.book.specs.Book.{cellsOf, linksOf, recordingAt, linkAt, bookRefusal, asLink}
-use Rattle.book.specs.BookGraph.{passes, graphOf}
-use Rattle.book.specs.AcceptedLaws.{book-sizes, book-link, book-ends}
+use Rattle.book.specs.Book.{cellsOf, linksOf, linkAt, bookRefusal, asLink}
+use Rattle.book.specs.BookGraph.{passes, hides, clear, kept, seenLinks, seenRecording, seenOf}
+use Rattle.book.specs.AcceptedLaws.{book-sizes, book-link}
+use Rattle.book.specs.SeenLaws.{seen-ends, seen-graph}
 use Rattle.book.specs.declared.BookLink.{BookLink}
-use Rattle.edges.specs.Edges.{edgeAt, emptyRows}
+use Rattle.edges.specs.Edges.{edgeAt, edges, emptyRows}
 use Rattle.edges.specs.BookEdges.{Loaded, comparisonOf, passingTo, passingRows, passing}
 use Rattle.edges.specs.Laws.{rows-none, rows-more}
 use Rattle.edges.specs.declared.Comparison.{Comparison as Asked}
@@ -34,49 +35,120 @@ module _ (s : List ℕ) (r : bookRefusal s ≡ 0) where
   pub cells-few : (n : ℕ) → n ≡ cellsOf s → n ≤ 64
   cells-few n d = omega (arith, book-sizes s r .few)
 
+-- ---- a link's cells
+module _ (h : ℕ) (l : BookLink) (a : Bool) (da : a ≡ hides h (l .from)) where
+  pub from-hidden : a ≡ true → false ≡ clear h (asLink l)
+  unfolding clear
+  from-hidden e = rw (← da, e)
+
+  pub from-seen : a ≡ false → (b : Bool) → b ≡ hides h (l .to) → not b ≡ clear h (asLink l)
+  unfolding clear
+  from-seen e b db = rw (← da, e, db)
+
 -- ---- the links, one turn at a time
--- the first k links are loaded
-pub record Filled (s fs ls ts : List ℕ) (k : ℕ) : Type 0 where
+-- the first n of a list that is given by a function
+list-snoc : {A : Type 0} (n : ℕ) (f : ℕ → A) → list (suc n) f ≡ list n f ++ (f n ∷ [])
+unfolding list
+list-snoc zero f = refl
+list-snoc (suc n) f = ap (λ l. f 0 ∷ l) (list-snoc n (λ i. f (suc i)))
+
+kept-append : (p : Link → Bool) (ks ls : List Link) → kept p (ks ++ ls) ≡ kept p ks ++ kept p ls
+unfolding kept
+kept-append p [] ls = refl
+kept-append p (k ∷ ks) ls = by (p k) (kept-append p ks ls)
+  where
+    by : (b : Bool) → kept p (ks ++ ls) ≡ kept p ks ++ kept p ls
+        → cond b (k ∷ kept p (ks ++ ls)) (kept p (ks ++ ls)) ≡ cond b (k ∷ kept p ks) (kept p ks) ++ kept p ls
+    by true e = ap (λ l. k ∷ l) e
+    by false e = e
+
+inside-at : (n m : ℕ) (f : ℕ → Link) → Inside n (list m f) → (i : ℕ) → i < m → (f i .from < n) × (f i .to < n)
+unfolding Inside list
+inside-at n zero f d i l = absurd (omega arith)
+inside-at n (suc m) f d zero l = (d .0, d .1)
+inside-at n (suc m) f d (suc i) l = inside-at n m (λ i. f (suc i)) (d .2) i (le-of-suc-le-suc l)
+
+-- of the first k links, those that are seen are loaded
+pub record Filled (h : ℕ) (s fs ls ts : List ℕ) (count k : ℕ) : Type 0 where
   pub from-long : length fs ≡ 512
   pub label-long : length ls ≡ 512
   pub to-long : length ts ≡ 512
-  pub each : (j : ℕ) → j < k → edgeAt fs ls ts j ≡ linkAt s j
+  pub is : edges count fs ls ts ≡ kept (clear h) (list k (linkAt s))
 
-pub filled-none : (s fs ls ts : List ℕ) → length fs ≡ 512 → length ls ≡ 512 → length ts ≡ 512 → Filled s fs ls ts 0
-filled-none s fs ls ts a b c = record { from-long = a; label-long = b; to-long = c; each = λ j h. absurd (omega arith) }
+pub filled-none : (h : ℕ) (s fs ls ts : List ℕ) → length fs ≡ 512 → length ls ≡ 512 → length ts ≡ 512 → Filled h s fs ls ts 0 0
+unfolding kept list
+filled-none h s fs ls ts a b c = record { from-long = a; label-long = b; to-long = c; is = refl }
 
-module _ (s fs ls ts : List ℕ) (k : ℕ) (i : Filled s fs ls ts k) where
-  pub filled-more : (e : ℕ) → k < e → e ≤ 512 → (l : BookLink) → asLink l ≡ linkAt s k → Filled s (set fs k (l .from)) (set ls k (l .label)) (set ts k (l .to)) (k + 1)
-  filled-more e h few l d = record {
-    from-long = length-set fs k (l .from) ∙ i .from-long;
-    label-long = length-set ls k (l .label) ∙ i .label-long;
-    to-long = length-set ts k (l .to) ∙ i .to-long;
-    each = λ j m. ⊎-elim (λ e. rw e here) (λ n. before j n) (eq-or-lt-of-le (omega arith));
+-- the cells of a link have room in a word
+module _ (s : List ℕ) (r : bookRefusal s ≡ 0) (k e : ℕ) (h : k < e) (d : e ≡ linksOf s) (l : BookLink) (dl : asLink l ≡ linkAt s k) where
+  pub from-low : l .from < 64
+  from-low = omega (arith, ap (λ (m : Link). m .from) dl, book-link s r k (omega arith) .from, book-sizes s r .few)
+
+  pub to-low : l .to < 64
+  to-low = omega (arith, ap (λ (m : Link). m .to) dl, book-link s r k (omega arith) .to, book-sizes s r .few)
+
+module _ (h : ℕ) (s fs ls ts : List ℕ) (count k : ℕ) (i : Filled h s fs ls ts count k) (few : count ≤ k) where
+  module _ (l : BookLink) (d : asLink l ≡ linkAt s k) (b : Bool) (db : b ≡ clear h (asLink l)) where
+    more : kept (clear h) (list (k + 1) (linkAt s)) ≡ edges count fs ls ts ++ cond b (asLink l ∷ []) []
+    unfolding kept
+    more =
+        let z : k + 1 ≡ suc k = omega arith in
+        rw z (ap (kept (clear h)) (list-snoc k (linkAt s)) ∙ kept-append (clear h) (list k (linkAt s)) (linkAt s k ∷ []) ∙ ap₂ _++_ (sym (i .is)) (rw (← d, ← db)))
+
+    longer-by : (e : ℕ) → k < e → e ≤ 512 → b ≡ true
+        → Filled h s (set fs count (l .from)) (set ls count (l .label)) (set ts count (l .to)) (count + 1) (k + 1)
+    longer-by e m most t = record {
+      from-long = length-set fs count (l .from) ∙ i .from-long;
+      label-long = length-set ls count (l .label) ∙ i .label-long;
+      to-long = length-set ts count (l .to) ∙ i .to-long;
+      is = longer ∙ sym (more ∙ rw t);
+    }
+      where
+        here : edgeAt (set fs count (l .from)) (set ls count (l .label)) (set ts count (l .to)) count ≡ asLink l
+        here =
+            rw (
+              getD-set-same fs count (l .from) 0 (omega (arith, i .from-long)),
+              getD-set-same ls count (l .label) 0 (omega (arith, i .label-long)),
+              getD-set-same ts count (l .to) 0 (omega (arith, i .to-long)),
+            )
+
+        before : (j : ℕ) → j < count → edgeAt (set fs count (l .from)) (set ls count (l .label)) (set ts count (l .to)) j ≡ edgeAt fs ls ts j
+        before j n =
+            let o : j ≡ count → ⊥ = λ e. omega arith in
+            rw (getD-set-other fs count j (l .from) 0 o, getD-set-other ls count j (l .label) 0 o, getD-set-other ts count j (l .to) 0 o)
+
+        longer : edges (count + 1) (set fs count (l .from)) (set ls count (l .label)) (set ts count (l .to)) ≡ edges count fs ls ts ++ (asLink l ∷ [])
+        longer =
+            let z : count + 1 ≡ suc count = omega arith in
+            rw z (list-snoc count _ ∙ ap₂ _++_ (list-ext count _ _ before) (ap (λ (x : Link). x ∷ []) here))
+
+    shorter : b ≡ false → Filled h s fs ls ts count (k + 1)
+    shorter t =
+        record { from-long = i .from-long; label-long = i .label-long; to-long = i .to-long; is = sym (more ∙ rw t (append-nil _)) }
+
+    module _ (fs′ ls′ ts′ : List ℕ) (next : ℕ) where
+      pub filled-more : (e : ℕ) → k < e → e ≤ 512 → b ≡ true → fs′ ≡ set fs count (l .from) → ls′ ≡ set ls count (l .label) → ts′ ≡ set ts count (l .to)
+          → next ≡ count + 1 → Filled h s fs′ ls′ ts′ next (k + 1)
+      filled-more e m most t u v w n = rw (u, v, w, n) (longer-by e m most t)
+
+      pub filled-skip : b ≡ false → fs′ ≡ fs → ls′ ≡ ls → ts′ ≡ ts → next ≡ count → Filled h s fs′ ls′ ts′ next (k + 1)
+      filled-skip t u v w n = rw (u, v, w, n) (shorter t)
+
+  pub filled-all : bookRefusal s ≡ 0 → (e : ℕ) → e ≡ linksOf s → e ≤ k → k ≤ e → Loaded h s count fs ls ts
+  filled-all r e d m n = record {
+    held = record {
+      few = omega (arith, book-sizes s r .most);
+      from-low = λ j l. omega (arith, inside j l .0, book-sizes s r .few);
+      to-low = λ j l. omega (arith, inside j l .1, book-sizes s r .few);
+    };
+    is = is;
   }
     where
-      here : edgeAt (set fs k (l .from)) (set ls k (l .label)) (set ts k (l .to)) k ≡ linkAt s k
-      here =
-          rw (
-            getD-set-same fs k (l .from) 0 (omega (arith, i .from-long)),
-            getD-set-same ls k (l .label) 0 (omega (arith, i .label-long)),
-            getD-set-same ts k (l .to) 0 (omega (arith, i .to-long)),
-          )
-          d
+      is : edges count fs ls ts ≡ seenLinks h s
+      is = let z : k ≡ linksOf s = omega arith in rw z at (i .is)
 
-      before : (j : ℕ) → j < k → edgeAt (set fs k (l .from)) (set ls k (l .label)) (set ts k (l .to)) j ≡ linkAt s j
-      before j n =
-          let o : j ≡ k → ⊥ = λ e. omega arith in
-          rw (getD-set-other fs k j (l .from) 0 o, getD-set-other ls k j (l .label) 0 o, getD-set-other ts k j (l .to) 0 o) (i .each j n)
-
-  pub filled-all : bookRefusal s ≡ 0 → (e : ℕ) → e ≡ linksOf s → e ≤ k → Loaded s fs ls ts
-  filled-all r e d h = record {
-    held = record {
-      few = book-sizes s r .most;
-      from-low = λ j l. omega (arith, ap (λ m. m .from) (i .each j (omega arith)), book-link s r j l .from, book-sizes s r .few);
-      to-low = λ j l. omega (arith, ap (λ m. m .to) (i .each j (omega arith)), book-link s r j l .to, book-sizes s r .few);
-    };
-    is = list-ext (linksOf s) (edgeAt fs ls ts) (linkAt s) (λ j l. i .each j (omega arith));
-  }
+      inside : (j : ℕ) → j < count → (getD fs j 0 < cellsOf s) × (getD ts j 0 < cellsOf s)
+      inside = inside-at (cellsOf s) count (edgeAt fs ls ts) (rw is (seen-graph h s r .inside))
 
 -- ---- a comparison of two recordings
 module _ (asked : Asked) (a b : ℕ) (r : Bool) where
@@ -87,36 +159,36 @@ module _ (asked : Asked) (a b : ℕ) (r : Bool) where
   passes-differ e d = rw e d
 
 -- ---- the cells that pass with a cell, one turn at a time
-module _ (s : List ℕ) (t : Comparison) where
-  pub word-none : (x : ℕ) → 0 ≡ passingTo s t x 0
+module _ (h : ℕ) (s : List ℕ) (t : Comparison) where
+  pub word-none : (x : ℕ) → 0 ≡ passingTo h s t x 0
   unfolding passingTo wordOf
   word-none x = refl
 
-  module _ (n x y : ℕ) (dn : n ≡ cellsOf s) (hx : x < cellsOf s) (hy : y < n) (a b : ℕ) (da : a ≡ recordingAt s x) (db : b ≡ recordingAt s y)
-      (r : Bool) (dr : r ≡ passes t a b) (out next : ℕ) (i : out ≡ passingTo s t x y) where
-    passed : graphOf s .ends t x y ≡ r
-    passed = book-ends s t x y hx (omega arith) ∙ rw (← da, ← db, ← dr)
+  module _ (n x y : ℕ) (dn : n ≡ cellsOf s) (hx : x < cellsOf s) (hy : y < n) (a b : ℕ) (da : a ≡ seenRecording h s x) (db : b ≡ seenRecording h s y)
+      (r : Bool) (dr : r ≡ passes t a b) (out next : ℕ) (i : out ≡ passingTo h s t x y) where
+    passed : seenOf h s .ends t x y ≡ r
+    passed = seen-ends h s t x y hx (omega arith) ∙ rw (← da, ← db, ← dr)
 
-    pub word-more : So r → (joined : ℕ) → joined ≡ bitOr out (2 ^ y) → next ≡ joined → next ≡ passingTo s t x (y + 1)
+    pub word-more : So r → (joined : ℕ) → joined ≡ bitOr out (2 ^ y) → next ≡ joined → next ≡ passingTo h s t x (y + 1)
     unfolding passingTo
-    word-more e = word-in (graphOf s .ends t x) y out next i (passed ∙ e)
+    word-more e = word-in (seenOf h s .ends t x) y out next i (passed ∙ e)
 
-    pub word-skip : r ≡ false → next ≡ out → next ≡ passingTo s t x (y + 1)
+    pub word-skip : r ≡ false → next ≡ out → next ≡ passingTo h s t x (y + 1)
     unfolding passingTo
-    word-skip e = word-out (graphOf s .ends t x) y out next i (passed ∙ e)
+    word-skip e = word-out (seenOf h s .ends t x) y out next i (passed ∙ e)
 
-  pub word-all : (x y n out : ℕ) → n ≡ cellsOf s → n ≤ y → y ≤ n → out ≡ passingTo s t x y → out ≡ passingTo s t x (cellsOf s)
-  word-all x y n out d h l i = let e : y ≡ cellsOf s = omega arith in rw e at i
+  pub word-all : (x y n out : ℕ) → n ≡ cellsOf s → n ≤ y → y ≤ n → out ≡ passingTo h s t x y → out ≡ passingTo h s t x (cellsOf s)
+  word-all x y n out d m l i = let e : y ≡ cellsOf s = omega arith in rw e at i
 
   -- ---- their rows
-  pub rows-start : emptyRows 64 ≡ passingRows s t 0
+  pub rows-start : emptyRows 64 ≡ passingRows h s t 0
   unfolding passingRows
   rows-start = rows-none 64 _
 
-  module _ (rows : List ℕ) (x : ℕ) (i : rows ≡ passingRows s t x) where
-    pub rows-next : (v : ℕ) → v ≡ passingTo s t x (cellsOf s) → set rows x v ≡ passingRows s t (x + 1)
+  module _ (rows : List ℕ) (x : ℕ) (i : rows ≡ passingRows h s t x) where
+    pub rows-next : (v : ℕ) → v ≡ passingTo h s t x (cellsOf s) → set rows x v ≡ passingRows h s t (x + 1)
     unfolding passingRows
     rows-next v d = rw (i, d) (rows-more 64 x _)
 
-    pub rows-all : (n : ℕ) → n ≡ cellsOf s → n ≤ x → x ≤ n → rows ≡ passing s t
-    rows-all n d h l = let e : x ≡ cellsOf s = omega arith in rw e at i
+    pub rows-all : (n : ℕ) → n ≡ cellsOf s → n ≤ x → x ≤ n → rows ≡ passing h s t
+    rows-all n d m l = let e : x ≡ cellsOf s = omega arith in rw e at i

@@ -5,10 +5,11 @@ ghost use mathlib.Core.Bool.{cond};
 ghost use Prim.Native.Nat.{_^_, _<_};
 ghost use lib.ListN.{length};
 ghost use Rattle.words.specs.Words.{bit};
-ghost use Rattle.book.specs.Book.{cellsOf, bookRefusal};
-ghost use Rattle.book.specs.BookGraph.{passes};
+ghost use Rattle.book.specs.Book.{cellsOf, bookRefusal, asLink};
+ghost use Rattle.book.specs.BookGraph.{passes, clear};
 ghost use Rattle.edges.specs.Edges.{edges, Held, image, gather, emptyRows, anyPasses};
 ghost use Rattle.edges.specs.BookEdges.{Loaded, comparisonOf, passingTo, passing};
+use book::BookLink;
 use book::Recording;
 
 // What is asked of the recordings of two cells (01: same, differ).
@@ -17,20 +18,43 @@ pub enum Comparison {
     Differ,
 }
 
-// Loads the links of an accepted book, in order: link k leads from cell from[k] by labels[k] to cell to[k].
-pub fn load(book: &[u8], from: &mut [u8; 512], labels: &mut [u16; 512], to: &mut [u8; 512])
+// Whether a link between cells that a word has room for touches no hidden cell.
+fn clear(hidden: u64, link: BookLink) -> bool
+    requires { ⌜ (link .from < 64) × (link .to < 64) ⌝ }
+    ensures { λ r. ⌜ r ≡ clear hidden (asLink link) ⌝ }
+{
+    if words::has(hidden, link.from) {
+        return false;
+    }
+    !words::has(hidden, link.to)
+}
+
+// Loads the links of an accepted book that touch no hidden cell, in order: link k of these leads from cell from[k] by labels[k] to cell
+// to[k]. The answer is how many they are.
+pub fn load(
+    book: &[u8],
+    hidden: u64,
+    from: &mut [u8; 512],
+    labels: &mut [u16; 512],
+    to: &mut [u8; 512],
+) -> usize
     requires { ⌜ (bookRefusal (now book) ≡ 0) × (length (now from) ≡ 512) × (length (now labels) ≡ 512) × (length (now to) ≡ 512) ⌝ }
-    ensures { λ _. ⌜ Loaded (now (book .entry)) (now (from .exit)) (now (labels .exit)) (now (to .exit)) ⌝ }
+    ensures { λ r. ⌜ Loaded hidden (now (book .entry)) r (now (from .exit)) (now (labels .exit)) (now (to .exit)) ⌝ }
 {
     let e = book::links_of(book);
+    let mut count = 0;
     let mut k = 0;
     while k < e {
         let link = book::link_of(book, k);
-        from[k] = link.from;
-        labels[k] = link.label;
-        to[k] = link.to;
+        if clear(hidden, link) {
+            from[count] = link.from;
+            labels[count] = link.label;
+            to[count] = link.to;
+            count += 1;
+        }
         k += 1;
     }
+    count
 }
 
 // The set of node j where w has node i, else the empty set.
@@ -120,17 +144,17 @@ fn passes(comparison: Comparison, a: Recording, b: Recording) -> bool
     }
 }
 
-// The cells that pass the comparison with cell x.
-fn passing_with(book: &[u8], comparison: Comparison, x: usize) -> u64
+// The cells that pass the comparison with cell x; a hidden cell passes none.
+fn passing_with(book: &[u8], hidden: u64, comparison: Comparison, x: usize) -> u64
     requires { ⌜ (bookRefusal (now book) ≡ 0) × (x < cellsOf (now book)) ⌝ }
-    ensures { λ r. ⌜ r ≡ passingTo (now (book .entry)) (comparisonOf comparison) x (cellsOf (now (book .entry))) ⌝ }
+    ensures { λ r. ⌜ r ≡ passingTo hidden (now (book .entry)) (comparisonOf comparison) x (cellsOf (now (book .entry))) ⌝ }
 {
     let n = book::cells_of(book);
-    let here = book::recording_of(book, x);
+    let here = book::recording_seen(book, hidden, x);
     let mut out: u64 = 0;
     let mut y = 0;
     while y < n {
-        let there = book::recording_of(book, y);
+        let there = book::recording_seen(book, hidden, y);
         if passes(comparison, here, there) {
             out = words::with(out, y as u8);
         }
@@ -139,17 +163,17 @@ fn passing_with(book: &[u8], comparison: Comparison, x: usize) -> u64
     out
 }
 
-// Rows of sets, one a cell of an accepted book: row x is the set of the cells that pass the comparison with cell x. The rows from the
-// number of cells on are empty.
-pub fn passing(book: &[u8], comparison: Comparison) -> [u64; 64]
+// Rows of sets, one a cell of an accepted book: row x is the set of the cells that pass the comparison with cell x. The rows of hidden
+// cells, and those from the number of cells on, are empty.
+pub fn passing(book: &[u8], hidden: u64, comparison: Comparison) -> [u64; 64]
     requires { ⌜ bookRefusal (now book) ≡ 0 ⌝ }
-    ensures { λ r. ⌜ r ≡ passing (now (book .entry)) (comparisonOf comparison) ⌝ }
+    ensures { λ r. ⌜ r ≡ passing hidden (now (book .entry)) (comparisonOf comparison) ⌝ }
 {
     let n = book::cells_of(book);
     let mut rows = [0u64; 64];
     let mut x = 0;
     while x < n {
-        rows[x] = passing_with(book, comparison, x);
+        rows[x] = passing_with(book, hidden, comparison, x);
         x += 1;
     }
     rows

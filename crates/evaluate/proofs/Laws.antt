@@ -1,17 +1,17 @@
 -- What each function of the evaluation returns, and what its loops keep: a law for each exit and each turn.
-use mathlib.Core.Bool.{Bool, true, false, cond}
+use mathlib.Core.Bool.{Bool, true, false, cond, not, _&&_}
 use mathlib.Core.Path.{_≡_, refl, sym, ap, _∙_}
 use mathlib.Core.List.{List, append-nil}
 use Prim.Native.Nat.{ℕ, suc, _+_, _-_, _^_, _≤_, _<_}
 use native.Mathlib.Nat.{sub-zero}
 use native.Mathlib.Omega.{arith}
-use borrow.Author.Tests.{lt-ltb, le-ltb, ne-eqb}
+use borrow.Author.Tests.{lt-ltb, le-ltb, ne-eqb, not-false, not-true}
 use lib.Bits.{bitAnd, bitOr, bitXor}
 use lib.Dec.{eqb, ltb}
 use lib.ListN.{getD, set, drop, length-replicate}
 use Rattle.theory.specs.Search.{list}
 use Rattle.theory.specs.Graph.{same, differ, Link}
-use Rattle.words.specs.Words.{wordOf}
+use Rattle.words.specs.Words.{bit, wordOf}
 use Rattle.words.specs.Laws.{word-in, word-out}
 use Rattle.sheet.specs.Entry.{Step, Entry, truth, negation, conjunction, disjunction, way, comparison, kindOf, firstWay, secondWay, stepIn, numbers}
 use Rattle.sheet.specs.Sheet.{entryAt, entryStart, nextAt}
@@ -20,7 +20,7 @@ use Rattle.sheet.specs.Reading.{Reads, stepsOf}
 use Rattle.sheet.specs.KnownLaws.{none-left, all-left, next-step}
 use Rattle.sheet.specs.declared.Steps.{Steps}
 use Rattle.edges.specs.Edges.{edges, image, gather, emptyRows, anyPasses}
-use Rattle.evaluate.specs.Evaluation.{Tables, tables, all, forward, backward, plainWord, wayWord, endRows, comparisonWord, pairWord, entryWord, evaluatedFrom, evaluated}
+use Rattle.evaluate.specs.Evaluation.{Tables, tables, forward, backward, plainWord, wayWord, endRows, comparisonTo, comparisonWord, pairWord, entryWord, evaluatedFrom, evaluated}
 use Rattle.evaluate.specs.WritingLaws.{over, over-next}
 
 -- ---- the words that numbers and tests name
@@ -118,39 +118,48 @@ unfolding emptyRows
 singles-end x rows h l d = d ∙ rw (let e : x ≡ 64 = omega arith in e) (append-nil (list 64 single))
 
 -- ---- two rows a node
-module _ (n x out : ℕ) (rows firsts seconds : List ℕ) (b : Bool) (d : b ≡ anyPasses (getD firsts x 0) (getD seconds x 0) rows) (i : out ≡ comparisonWord x rows firsts seconds) where
-  abbrev passed : ℕ → Bool
-  passed y = anyPasses (getD firsts y 0) (getD seconds y 0) rows
+module _ (every x first second : ℕ) (rows : List ℕ) (a : Bool) (d : a ≡ bit every x) where
+  pub passes-no-node : not a ≡ true → false ≡ (bit every x && anyPasses first second rows)
+  passes-no-node e = rw (← d, not-true a e)
 
-  pub comparison-set : (v r : ℕ) → b ≡ true → v ≡ bitOr out (2 ^ x) → r ≡ v → r ≡ comparisonWord (x + 1) rows firsts seconds
-  unfolding comparisonWord
+  pub passes-node : not a ≡ false → (r : Bool) → r ≡ anyPasses first second rows → r ≡ (bit every x && anyPasses first second rows)
+  passes-node e r f = rw (← d, not-false a e) f
+
+module _ (every x out : ℕ) (rows firsts seconds : List ℕ) (b : Bool) (d : b ≡ (bit every x && anyPasses (getD firsts x 0) (getD seconds x 0) rows))
+    (i : out ≡ comparisonTo x every rows firsts seconds) where
+  abbrev passed : ℕ → Bool
+  passed y = bit every y && anyPasses (getD firsts y 0) (getD seconds y 0) rows
+
+  pub comparison-set : (v r : ℕ) → b ≡ true → v ≡ bitOr out (2 ^ x) → r ≡ v → r ≡ comparisonTo (x + 1) every rows firsts seconds
+  unfolding comparisonTo
   comparison-set v r t = word-in passed x out r i (sym d ∙ t) v
 
-  pub comparison-clear : (r : ℕ) → b ≡ false → r ≡ out → r ≡ comparisonWord (x + 1) rows firsts seconds
-  unfolding comparisonWord
+  pub comparison-clear : (r : ℕ) → b ≡ false → r ≡ out → r ≡ comparisonTo (x + 1) every rows firsts seconds
+  unfolding comparisonTo
   comparison-clear r t = word-out passed x out r i (sym d ∙ t)
 
-pub comparison-start : (rows firsts seconds : List ℕ) → 0 ≡ comparisonWord 0 rows firsts seconds
-unfolding comparisonWord wordOf
-comparison-start rows firsts seconds = refl
+pub comparison-start : (every : ℕ) (rows firsts seconds : List ℕ) → 0 ≡ comparisonTo 0 every rows firsts seconds
+unfolding comparisonTo wordOf
+comparison-start every rows firsts seconds = refl
 
-pub comparison-end : (n x out : ℕ) (rows firsts seconds : List ℕ) → n ≤ x → x ≤ n → out ≡ comparisonWord x rows firsts seconds → out ≡ comparisonWord n rows firsts seconds
-comparison-end n x out rows firsts seconds h l i = i ∙ ap (λ k. comparisonWord k rows firsts seconds) (omega arith)
+pub comparison-end : (every x out : ℕ) (rows firsts seconds : List ℕ) → 64 ≤ x → x ≤ 64 → out ≡ comparisonTo x every rows firsts seconds
+    → out ≡ comparisonWord every rows firsts seconds
+comparison-end every x out rows firsts seconds h l i = i ∙ ap (λ k. comparisonTo k every rows firsts seconds) (omega arith)
 
 -- ---- the ways of an entry
-pub pair-returned : (n r : ℕ) (rows : List ℕ) (ks : List Link) (ws s : List ℕ) (p p′ w w′ : Steps) (ss ss′ : List Step) (firsts seconds : List ℕ)
+pub pair-returned : (every r : ℕ) (rows : List ℕ) (ks : List Link) (ws s : List ℕ) (p p′ w w′ : Steps) (ss ss′ : List Step) (firsts seconds : List ℕ)
     → Reads s p ss w → Reads s p′ ss′ w′ → firsts ≡ endRows ks ws (stepsOf s w) → seconds ≡ endRows ks ws (stepsOf s w′)
-    → r ≡ comparisonWord n rows firsts seconds → r ≡ comparisonWord n rows (endRows ks ws ss) (endRows ks ws ss′)
-pair-returned n r rows ks ws s p p′ w w′ ss ss′ firsts seconds a b d e f = f ∙ rw (d, e, a .steps, b .steps)
+    → r ≡ comparisonWord every rows firsts seconds → r ≡ comparisonWord every rows (endRows ks ws ss) (endRows ks ws ss′)
+pair-returned every r rows ks ws s p p′ w w′ ss ss′ firsts seconds a b d e f = f ∙ rw (d, e, a .steps, b .steps)
 
 -- ---- the word of an entry, by its kind
 waysBy : ℕ → Tables → List ℕ → List Step → List Step → ℕ
 waysBy kind t ws ss ss′ =
-    cond (eqb kind 4) (wayWord (all t) (backward t) ws ss)
-    (comparisonWord (t .size) (cond (eqb kind 5) (t .sames) (t .differs)) (endRows (forward t) ws ss) (endRows (forward t) ws ss′))
+    cond (eqb kind 4) (wayWord (t .every) (backward t) ws ss)
+    (comparisonWord (t .every) (cond (eqb kind 5) (t .sames) (t .differs)) (endRows (forward t) ws ss) (endRows (forward t) ws ss′))
 
 entry-by : (t : Tables) (ws : List ℕ) (e : Entry)
-    → entryWord t ws e ≡ cond (ltb (kindOf e) 4) (plainWord (all t) ws e) (waysBy (kindOf e) t ws (firstWay e) (secondWay e))
+    → entryWord t ws e ≡ cond (ltb (kindOf e) 4) (plainWord (t .every) ws e) (waysBy (kindOf e) t ws (firstWay e) (secondWay e))
 unfolding entryWord kindOf firstWay secondWay waysBy
 entry-by t ws truth = refl
 entry-by t ws (negation i) = refl
@@ -160,32 +169,31 @@ entry-by t ws (way ss) = refl
 entry-by t ws (comparison same ss ss′) = refl
 entry-by t ws (comparison differ ss ss′) = refl
 
-module _ (n count : ℕ) (fs ls ts sames differs ws s : List ℕ) (at kind r : ℕ) (d : kind ≡ kindOf (entryAt s at)) where
+module _ (every count : ℕ) (fs ls ts sames differs ws s : List ℕ) (at kind r : ℕ) (d : kind ≡ kindOf (entryAt s at)) where
   -- its tables
   t : Tables
-  t = tables n count fs ls ts sames differs
+  t = tables every count fs ls ts sames differs
 
   by-kind : (k : ℕ) → kind ≡ k → entryWord t ws (entryAt s at)
-      ≡ cond (ltb k 4) (plainWord (2 ^ n - 1) ws (entryAt s at)) (waysBy k t ws (firstWay (entryAt s at)) (secondWay (entryAt s at)))
+      ≡ cond (ltb k 4) (plainWord every ws (entryAt s at)) (waysBy k t ws (firstWay (entryAt s at)) (secondWay (entryAt s at)))
   unfolding t
-  by-kind k e = rw (← e, d) (entry-by (tables n count fs ls ts sames differs) ws (entryAt s at))
+  by-kind k e = rw (← e, d) (entry-by (tables every count fs ls ts sames differs) ws (entryAt s at))
 
-  module _ (u : ℕ) (f : u ≡ 2 ^ n - 1) where
-    pub entry-plain : kind < 4 → r ≡ plainWord u ws (entryAt s at) → r ≡ entryWord (tables n count fs ls ts sames differs) ws (entryAt s at)
-    unfolding t
-    entry-plain h e = e ∙ rw f (sym (by-kind kind refl ∙ rw (lt-ltb kind 4 h)))
+  pub entry-plain : kind < 4 → r ≡ plainWord every ws (entryAt s at) → r ≡ entryWord (tables every count fs ls ts sames differs) ws (entryAt s at)
+  unfolding t
+  entry-plain h e = e ∙ sym (by-kind kind refl ∙ rw (lt-ltb kind 4 h))
 
-    pub entry-way : (p w : Steps) → kind ≡ 4 → Reads s p (firstWay (entryAt s at)) w → r ≡ wayWord u (edges count ts ls fs) ws (stepsOf s w)
-        → r ≡ entryWord (tables n count fs ls ts sames differs) ws (entryAt s at)
-    unfolding t waysBy
-    entry-way p w k a e = e ∙ rw (f, a .steps) (sym (by-kind 4 k))
+  pub entry-way : (p w : Steps) → kind ≡ 4 → Reads s p (firstWay (entryAt s at)) w → r ≡ wayWord every (edges count ts ls fs) ws (stepsOf s w)
+      → r ≡ entryWord (tables every count fs ls ts sames differs) ws (entryAt s at)
+  unfolding t waysBy
+  entry-way p w k a e = e ∙ rw (a .steps) (sym (by-kind 4 k))
 
-  pub entry-same : kind ≡ 5 → r ≡ pairWord n sames (edges count fs ls ts) ws (entryAt s at) → r ≡ entryWord (tables n count fs ls ts sames differs) ws (entryAt s at)
+  pub entry-same : kind ≡ 5 → r ≡ pairWord every sames (edges count fs ls ts) ws (entryAt s at) → r ≡ entryWord (tables every count fs ls ts sames differs) ws (entryAt s at)
   unfolding t waysBy
   entry-same k e = e ∙ sym (by-kind 5 k)
 
-  pub entry-differ : 4 ≤ kind → (kind ≡ 4 → ⊥) → (kind ≡ 5 → ⊥) → r ≡ pairWord n differs (edges count fs ls ts) ws (entryAt s at)
-      → r ≡ entryWord (tables n count fs ls ts sames differs) ws (entryAt s at)
+  pub entry-differ : 4 ≤ kind → (kind ≡ 4 → ⊥) → (kind ≡ 5 → ⊥) → r ≡ pairWord every differs (edges count fs ls ts) ws (entryAt s at)
+      → r ≡ entryWord (tables every count fs ls ts sames differs) ws (entryAt s at)
   unfolding t waysBy
   entry-differ h g k e = e ∙ sym (by-kind kind refl ∙ rw (le-ltb kind 4 h, ne-eqb kind 4 g, ne-eqb kind 5 k))
 

@@ -1,21 +1,21 @@
 -- The word of an entry is that of its question.
-use mathlib.Core.Bool.{Bool, true, false, not, xor, _&&_}
+use mathlib.Core.Bool.{Bool, true, false, not, xor, _&&_, _||_, and-true}
 use mathlib.Core.Path.{_≡_, refl, sym, ap, ap₂, _∙_}
 use mathlib.Core.List.{List, [], _∷_}
-use Prim.Native.Nat.{ℕ, zero, suc, _+_, _-_, _^_, _≤_, _<_}
-use native.Mathlib.Nat.{add-zero, zero-add}
+use Prim.Native.Nat.{ℕ, zero, suc, _+_, _^_, _≤_, _<_}
+use native.Mathlib.Nat.{add-zero, zero-add, lt-of-lt-of-le}
 use native.Mathlib.Omega.{arith}
 use lib.Bits.{bitAnd, bitOr, bitXor, xor-lt}
-use lib.Dec.{eqb}
+use lib.Dec.{eqb, ltb}
 use lib.ListN.{length, set}
-use lib.Pow.{pow-lt}
-use Rattle.theory.specs.Search.{list}
-use Rattle.theory.specs.TestLaws.{list-at}
-use Rattle.theory.specs.Graph.{Comparison, Graph}
+use lib.Pow.{pow-lt, pow-mono}
+use Rattle.theory.specs.Search.{any, list}
+use Rattle.theory.specs.TestLaws.{any-iff, any-ext, and-iff, test-eq, list-at}
+use Rattle.theory.specs.Graph.{Comparison, Graph, linked, WellFormed}
 use Rattle.theory.specs.Expression.{NodeExpr, neg, conj, disj, exists, compare, always}
 use Rattle.theory.specs.Meaning.{reach, holds}
-use Rattle.words.specs.Words.{wordOf}
-use Rattle.words.specs.Laws.{wordOf-is, wordOf-ext, wordOf-lt, bit-wordOf-lt, full-wordOf, bit-xor, bit-pow, and-wordOf, or-wordOf}
+use Rattle.words.specs.Words.{bit, wordOf}
+use Rattle.words.specs.Laws.{word-ext, wordOf-is, wordOf-ext, wordOf-lt, bit-wordOf, bit-wordOf-lt, bit-pow, bit-xor, and-wordOf, or-wordOf}
 use Rattle.sheet.specs.Entry.{Step, Entry, truth, negation, conjunction, disjunction, way, comparison, firstWay, secondWay, named, spellWay, spell, expressions, tests, numbers, Below}
 use Rattle.sheet.specs.Sheet.{countOf, entriesOf, entryAt, entryStart, sheetRefusal}
 use Rattle.sheet.specs.AcceptedLaws.{well-formed-entry, entryStart-zero, entryStart-next, accepted-standing, accepted-question}
@@ -25,48 +25,87 @@ use Rattle.edges.specs.Laws.{preimage-is, gather-is, any-passes-is}
 use Rattle.evaluate.specs.WritingLaws.{over, over-at, over-next}
 use Rattle.evaluate.specs.WayLaws.{stays, reach-step, exists-step}
 use Rattle.evaluate.specs.QuestionWord.{truthWord, questionWord}
-use Rattle.evaluate.specs.Evaluation.{Tables, all, forward, backward, rowsFor, plainWord, wayWord, endRows, comparisonWord, entryWord, evaluatedFrom, evaluated, TablesOf, Known}
+use Rattle.evaluate.specs.Evaluation.{Tables, forward, backward, rowsFor, plainWord, wayWord, endRows, comparisonTo, comparisonWord, entryWord, evaluatedFrom, evaluated, TablesOf, Known}
+
+-- ---- words of nodes
+together : (a b c : Bool) → ((a && b) && c) ≡ (a && (b && c))
+together true b c = refl
+together false b c = refl
+
+-- what is asked of some numbers below n, asked of those below m
+wide : (n m : ℕ) (p q : ℕ → Bool) → n ≤ m → wordOf m (λ x. bit (wordOf n p) x && q x) ≡ wordOf n (λ x. p x && q x)
+wide n m p q h =
+    word-ext m _ _ (wordOf-lt m _) (lt-of-lt-of-le (wordOf-lt n _) (pow-mono h))
+    (λ x l. bit-wordOf-lt m _ x l ∙ ap (λ (b : Bool). b && q x) (bit-wordOf n p x) ∙ together (ltb x n) (p x) (q x) ∙ sym (bit-wordOf n _ x))
+
+module _ {g : Graph} (formed : WellFormed g) (x a : ℕ) where
+  -- a link leads to a node,
+  to-node : (y : ℕ) (b : Bool) → (linked g x a y && (g .shown y && b)) ≡ (linked g x a y && b)
+  to-node y b =
+      test-eq _ _ (λ h. let (l, (_, t)) = simp and-iff at h in simp and-iff (l, t))
+      (λ h. let (l, t) = simp and-iff at h in simp and-iff (l, (formed .seen x a y l .1, t)))
+
+  -- and from one
+  from-node : (q : ℕ → Bool) → (g .shown x && any (g .size) (λ y. linked g x a y && q y)) ≡ any (g .size) (λ y. linked g x a y && q y)
+  from-node q =
+      test-eq _ _ (λ h. and-iff (g .shown x) _ .0 h .1)
+      (λ h. let (y, i, (l, t)) = simp (any-iff, and-iff) at h in and-iff (g .shown x) _ .1 (formed .seen x a y l .0, h))
 
 -- ---- expressions without ways
-xor-true : (b : Bool) → xor true b ≡ not b
+-- a set without another, and two sets, of some nodes
+xor-within : (s b : Bool) → xor s (s && b) ≡ (s && not b)
 unfolding xor
-xor-true true = refl
-xor-true false = refl
+xor-within true true = refl
+xor-within true false = refl
+xor-within false b = refl
+
+and-within : (s a b : Bool) → ((s && a) && (s && b)) ≡ (s && (a && b))
+and-within true a b = refl
+and-within false a b = refl
+
+or-within : (s a b : Bool) → ((s && a) || (s && b)) ≡ (s && (a || b))
+or-within true a b = refl
+or-within false a b = refl
 
 module _ (g : Graph) where
-  pub always-word : truthWord g always ≡ 2 ^ g .size - 1
-  unfolding spellWay
-  always-word = sym (full-wordOf (g .size) ∙ wordOf-ext (g .size) _ _ (λ x h. sym (stays g [] x h)))
+  -- the set of all nodes
+  abbrev every : ℕ
+  every = wordOf (g .size) (g .shown)
 
-  pub neg-word : (q : NodeExpr) → truthWord g (neg q) ≡ bitXor (2 ^ g .size - 1) (truthWord g q)
+  pub always-word : truthWord g always ≡ every
+  unfolding spellWay
+  always-word = wordOf-ext (g .size) _ _ (λ x h. rw (stays g [] x h) (and-true (g .shown x)))
+
+  pub neg-word : (q : NodeExpr) → truthWord g (neg q) ≡ bitXor every (truthWord g q)
   unfolding holds
   neg-word q =
       let n = g .size in
-      let u = wordOf n (λ x. true) in
       let w = truthWord g q in
-      sym (rw (full-wordOf n)
-      (wordOf-is n (bitXor u w) (λ x. not (holds g q x)) (xor-lt n u w (wordOf-lt n (λ x. true)) (wordOf-lt n (holds g q)))
-      (λ x h. bit-xor u w x ∙ ap₂ xor (bit-wordOf-lt n (λ i. true) x h) (bit-wordOf-lt n (holds g q) x h) ∙ xor-true (holds g q x))))
+      sym (wordOf-is n (bitXor every w) _ (xor-lt n every w (wordOf-lt n _) (wordOf-lt n _))
+      (λ x h. bit-xor every w x ∙ ap₂ xor (bit-wordOf-lt n (g .shown) x h) (bit-wordOf-lt n (λ y. g .shown y && holds g q y) x h)
+      ∙ xor-within (g .shown x) (holds g q x)))
 
   pub conj-word : (q p : NodeExpr) → truthWord g (conj q p) ≡ bitAnd (truthWord g q) (truthWord g p)
   unfolding holds
-  conj-word q p = sym (and-wordOf (g .size) (holds g q) (holds g p))
+  conj-word q p = sym (and-wordOf (g .size) _ _ ∙ wordOf-ext (g .size) _ _ (λ x h. and-within (g .shown x) (holds g q x) (holds g p x)))
 
   pub disj-word : (q p : NodeExpr) → truthWord g (disj q p) ≡ bitOr (truthWord g q) (truthWord g p)
   unfolding holds
-  disj-word q p = sym (or-wordOf (g .size) (holds g q) (holds g p))
+  disj-word q p = sym (or-wordOf (g .size) _ _ ∙ wordOf-ext (g .size) _ _ (λ x h. or-within (g .shown x) (holds g q x) (holds g p x)))
 
 module _ {g : Graph} {t : Tables} (o : TablesOf g t) {qs : List NodeExpr} {m : ℕ} {ws : List ℕ} (k : Known g qs m ws) where
   -- the nodes with a way
-  way-word : (ss : List Step) → Below m (tests ss) → wayWord (all t) (backward t) ws ss ≡ truthWord g (exists (spellWay qs ss))
+  way-word : (ss : List Step) → Below m (tests ss) → wayWord (t .every) (backward t) ws ss ≡ truthWord g (exists (spellWay qs ss))
   unfolding wayWord Below tests spellWay
-  way-word [] b = rw (o .size) (sym (always-word g))
+  way-word [] b = rw (o .every) (sym (always-word g))
   way-word (s ∷ ss) b =
       let n = g .size in
       let p : ℕ → Bool = λ y. holds g (named qs (s .test)) y && holds g (exists (spellWay qs ss)) y in
       rw (way-word ss (b .1), k .word (s .test) (b .0), and-wordOf)
-      (preimage-is g (o .formed) (t .count) (t .froms) (t .labels) (t .tos) (o .links) (s .label) p
-      ∙ wordOf-ext n _ _ (λ x h. sym (exists-step g qs s ss x)))
+      (preimage-is g (o .formed) (t .count) (t .froms) (t .labels) (t .tos) (o .links) (s .label) _
+      ∙ wordOf-ext n _ _
+      (λ x h. any-ext n _ _ (λ y l. ap (λ (b : Bool). linked g x (s .label) y && b) (and-within (g .shown y) _ _) ∙ to-node (o .formed) x (s .label) y (p y))
+      ∙ sym (ap (λ (b : Bool). g .shown x && b) (exists-step g qs s ss x) ∙ from-node (o .formed) x (s .label) p)))
 
   -- the ends of the ways
   way-rows : (ss : List Step) → Below m (tests ss) → Rows (g .size) (reach g (spellWay qs ss)) (endRows (forward t) ws ss)
@@ -77,27 +116,35 @@ module _ {g : Graph} {t : Tables} (o : TablesOf g t) {qs : List NodeExpr} {m : �
       }
   way-rows (s ∷ ss) b =
       let n = g .size in
-      let d = gather-is g (o .formed) (t .count) (t .froms) (t .labels) (t .tos) (o .links) (s .label) (holds g (named qs (s .test)))
-      (reach g (spellWay qs ss)) (endRows (forward t) ws ss) (way-rows ss (b .1)) 64 (o .few) in
+      let q = holds g (named qs (s .test)) in
+      let r = reach g (spellWay qs ss) in
+      let d = gather-is g (o .formed) (t .count) (t .froms) (t .labels) (t .tos) (o .links) (s .label) (λ y. g .shown y && q y) r
+      (endRows (forward t) ws ss) (way-rows ss (b .1)) 64 (o .few) in
       rw (k .word (s .test) (b .0))
-      (record { row = λ x h. d .row x h ∙ wordOf-ext n _ _ (λ z l. sym (reach-step g qs s ss x z)) })
+      (record {
+        row = λ x h. d .row x h
+            ∙ wordOf-ext n _ _
+            (λ z l. any-ext n _ _ (λ y i. ap (λ (b : Bool). linked g x (s .label) y && b) (together (g .shown y) (q y) (r y z)) ∙ to-node (o .formed) x (s .label) y (q y && r y z))
+            ∙ sym (reach-step g qs s ss x z));
+      })
 
   -- the nodes where two ends pass
   comparison-word : (c : Comparison) (ss ss′ : List Step) → Below m (tests ss) → Below m (tests ss′)
-      → comparisonWord (t .size) (rowsFor t c) (endRows (forward t) ws ss) (endRows (forward t) ws ss′)
+      → comparisonWord (t .every) (rowsFor t c) (endRows (forward t) ws ss) (endRows (forward t) ws ss′)
       ≡ truthWord g (compare c (spellWay qs ss) (spellWay qs ss′))
-  unfolding comparisonWord holds
+  unfolding comparisonTo holds
   comparison-word c ss ss′ b b′ =
-      ap (λ n. comparisonWord n (rowsFor t c) (endRows (forward t) ws ss) (endRows (forward t) ws ss′)) (o .size)
+      ap (λ (w : ℕ). comparisonWord w (rowsFor t c) (endRows (forward t) ws ss) (endRows (forward t) ws ss′)) (o .every)
+      ∙ wide (g .size) 64 (g .shown) _ (o .few)
       ∙ wordOf-ext (g .size) _ _
-      (λ x h. rw (way-rows ss b .row x h, way-rows ss′ b′ .row x h)
-      (any-passes-is (g .size) (reach g (spellWay qs ss) x) (reach g (spellWay qs ss′) x) (g .ends c) (rowsFor t c) (o .few) (o .rows c)))
+      (λ x h. ap (λ (b : Bool). g .shown x && b) (rw (way-rows ss b .row x h, way-rows ss′ b′ .row x h)
+      (any-passes-is (g .size) (reach g (spellWay qs ss) x) (reach g (spellWay qs ss′) x) (g .ends c) (rowsFor t c) (o .few) (o .rows c))))
 
   -- the word of an entry whose numbers are below m is that of the expression that it spells
   pub entry-word : (e : Entry) → Below m (numbers e) → entryWord t ws e ≡ truthWord g (spell qs e)
   unfolding entryWord plainWord Below numbers spell firstWay secondWay
-  entry-word truth b = rw (o .size) (sym (always-word g))
-  entry-word (negation i) b = rw (o .size, k .word i (b .0)) (sym (neg-word g (named qs i)))
+  entry-word truth b = rw (o .every) (sym (always-word g))
+  entry-word (negation i) b = rw (o .every, k .word i (b .0)) (sym (neg-word g (named qs i)))
   entry-word (conjunction i j) b = rw (k .word i (b .0), k .word j (b .1 .0)) (sym (conj-word g (named qs i) (named qs j)))
   entry-word (disjunction i j) b = rw (k .word i (b .0), k .word j (b .1 .0)) (sym (disj-word g (named qs i) (named qs j)))
   entry-word (way ss) b = way-word ss b

@@ -1,14 +1,15 @@
 -- How the words of a sheet's questions in a graph (`QuestionWord`) are computed: entry by entry, from the words of the entries before.
 -- `EvaluatedLaws` says that what is computed is the word of the entry's question.
+use mathlib.Core.Bool.{_&&_}
 use mathlib.Core.List.{List, [], _∷_}
 use mathlib.Core.Path.{_≡_}
-use Prim.Native.Nat.{ℕ, zero, suc, _+_, _-_, _^_, _≤_, _<_}
+use Prim.Native.Nat.{ℕ, zero, suc, _+_, _^_, _≤_, _<_}
 use lib.Bits.{bitAnd, bitOr, bitXor}
 use lib.ListN.{getD, set}
 use Rattle.theory.specs.Search.{list}
 use Rattle.theory.specs.Graph.{Comparison, same, differ, Graph, Link, WellFormed}
 use Rattle.theory.specs.Expression.{NodeExpr}
-use Rattle.words.specs.Words.{wordOf}
+use Rattle.words.specs.Words.{bit, wordOf}
 use Rattle.sheet.specs.Entry.{Step, Entry, truth, negation, conjunction, disjunction, way, comparison, firstWay, secondWay, named}
 use Rattle.sheet.specs.Sheet.{headSize, entryAt, nextAt}
 use Rattle.evaluate.specs.QuestionWord.{truthWord}
@@ -16,9 +17,9 @@ use Rattle.edges.specs.Edges.{edges, image, gather, emptyRows, anyPasses, Rows}
 
 -- ---- the tables that are made of a graph once
 
--- Its size; its links in three lists; and for same and for differ a row a node, with the nodes that pass it.
+-- The set of its nodes; its links in three lists; and for same and for differ a row a node, with the nodes that pass it.
 pub record Tables : Type 0 where
-  pub size : ℕ
+  pub every : ℕ
   pub count : ℕ
   pub froms : List ℕ
   pub labels : List ℕ
@@ -28,12 +29,8 @@ pub record Tables : Type 0 where
 
 -- the tables of these numbers and lists
 abbrev pub tables : ℕ → ℕ → List ℕ → List ℕ → List ℕ → List ℕ → List ℕ → Tables
-tables n count fs ls ts sames differs =
-    record { size = n; count = count; froms = fs; labels = ls; tos = ts; sames = sames; differs = differs }
-
--- The set of all nodes.
-abbrev pub all : Tables → ℕ
-all t = 2 ^ t .size - 1
+tables every count fs ls ts sames differs =
+    record { every = every; count = count; froms = fs; labels = ls; tos = ts; sames = sames; differs = differs }
 
 -- The links.
 abbrev pub forward : Tables → List Link
@@ -70,22 +67,26 @@ unfoldable pub endRows : List Link → List ℕ → List Step → List ℕ
 endRows ks ws [] = list 64 (λ x. 2 ^ x)
 endRows ks ws (s ∷ ss) = gather ks (s .label) (getD ws (s .test) 0) (endRows ks ws ss) (emptyRows 64)
 
--- The nodes below n with an end in their first row and an end in their second that pass.
-unfoldable pub comparisonWord : ℕ → List ℕ → List ℕ → List ℕ → ℕ
-comparisonWord n rows firsts seconds = wordOf n (λ x. anyPasses (getD firsts x 0) (getD seconds x 0) rows)
+-- Of the first m numbers, the nodes with an end in their first row and an end in their second that pass.
+unfoldable pub comparisonTo : ℕ → ℕ → List ℕ → List ℕ → List ℕ → ℕ
+comparisonTo m every rows firsts seconds = wordOf m (λ x. bit every x && anyPasses (getD firsts x 0) (getD seconds x 0) rows)
+
+-- All such nodes.
+abbrev pub comparisonWord : ℕ → List ℕ → List ℕ → List ℕ → ℕ
+comparisonWord every rows firsts seconds = comparisonTo 64 every rows firsts seconds
 
 -- The word of a comparison whose rows are given, from the two ways of its entry.
 abbrev pub pairWord : ℕ → List ℕ → List Link → List ℕ → Entry → ℕ
-pairWord n rows ks ws e = comparisonWord n rows (endRows ks ws (firstWay e)) (endRows ks ws (secondWay e))
+pairWord every rows ks ws e = comparisonWord every rows (endRows ks ws (firstWay e)) (endRows ks ws (secondWay e))
 
 -- The word of an entry.
 unfoldable pub entryWord : Tables → List ℕ → Entry → ℕ
-entryWord t ws truth = plainWord (all t) ws truth
-entryWord t ws (negation i) = plainWord (all t) ws (negation i)
-entryWord t ws (conjunction i j) = plainWord (all t) ws (conjunction i j)
-entryWord t ws (disjunction i j) = plainWord (all t) ws (disjunction i j)
-entryWord t ws (way ss) = wayWord (all t) (backward t) ws ss
-entryWord t ws (comparison c ss ss′) = pairWord (t .size) (rowsFor t c) (forward t) ws (comparison c ss ss′)
+entryWord t ws truth = plainWord (t .every) ws truth
+entryWord t ws (negation i) = plainWord (t .every) ws (negation i)
+entryWord t ws (conjunction i j) = plainWord (t .every) ws (conjunction i j)
+entryWord t ws (disjunction i j) = plainWord (t .every) ws (disjunction i j)
+entryWord t ws (way ss) = wayWord (t .every) (backward t) ws ss
+entryWord t ws (comparison c ss ss′) = pairWord (t .every) (rowsFor t c) (forward t) ws (comparison c ss ss′)
 
 -- The words after the entries number k to k + left - 1, of which the first starts at `at`, have been written one after another.
 unfoldable pub evaluatedFrom : Tables → List ℕ → ℕ → ℕ → ℕ → List ℕ → List ℕ
@@ -102,7 +103,7 @@ evaluated t s upto ws = evaluatedFrom t s 0 headSize upto ws
 pub record TablesOf (g : Graph) (t : Tables) : Type 0 where
   pub formed : WellFormed g
   pub few : g .size ≤ 64
-  pub size : t .size ≡ g .size
+  pub every : t .every ≡ wordOf (g .size) (g .shown)
   pub links : forward t ≡ g .links
   pub rows : (c : Comparison) → Rows (g .size) (g .ends c) (rowsFor t c)
 

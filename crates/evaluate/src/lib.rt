@@ -1,5 +1,6 @@
 // The words of a sheet's entries, one after another, over the tables of a graph: sets of nodes as words.
 ghost use mathlib.Core.Path.{_≡_};
+ghost use mathlib.Core.Bool.{_&&_};
 ghost use Prim.Native.Nat.{_^_, _≤_, _<_};
 ghost use lib.ListN.{length, getD};
 ghost use Rattle.theory.specs.Search.{list};
@@ -7,7 +8,8 @@ ghost use Rattle.sheet.specs.Entry.{kindOf, stepIn, numbers};
 ghost use Rattle.sheet.specs.Sheet.{entryAt};
 ghost use Rattle.sheet.specs.Reading.{stepsOf, HasNumber};
 ghost use Rattle.sheet.specs.Known.{WayKnown, EntryKnown, EntriesFit};
-ghost use Rattle.edges.specs.Edges.{edges, Held};
+ghost use Rattle.edges.specs.Edges.{edges, Held, anyPasses};
+ghost use Rattle.words.specs.Words.{bit};
 ghost use Rattle.evaluate.specs.Evaluation.{tables, plainWord, wayWord, endRows, comparisonWord, pairWord, entryWord, evaluated};
 use sheet::Question;
 
@@ -111,16 +113,26 @@ fn end_rows(
     rows
 }
 
-// The nodes below n with an end in their first row and an end in their second that pass.
-fn comparison_word(n: u8, rows: &[u64; 64], firsts: &[u64; 64], seconds: &[u64; 64]) -> u64
-    requires { ⌜ n ≤ 64 ⌝ }
-    ensures { λ r. ⌜ r ≡ comparisonWord n (now (rows .entry)) (now (firsts .entry)) (now (seconds .entry)) ⌝ }
+// Whether x is a node of `every`, and some end of the first set and some end of the second pass.
+fn passes_at(every: u64, x: u8, first: u64, second: u64, rows: &[u64; 64]) -> bool
+    requires { ⌜ x < 64 ⌝ }
+    ensures { λ r. ⌜ r ≡ (bit every x && anyPasses first second (now (rows .entry))) ⌝ }
+{
+    if !words::has(every, x) {
+        return false;
+    }
+    edges::any_passes(first, second, rows)
+}
+
+// The nodes of `every` with an end in their first row and an end in their second that pass.
+fn comparison_word(every: u64, rows: &[u64; 64], firsts: &[u64; 64], seconds: &[u64; 64]) -> u64
+    ensures { λ r. ⌜ r ≡ comparisonWord every (now (rows .entry)) (now (firsts .entry)) (now (seconds .entry)) ⌝ }
 {
     let mut out: u64 = 0;
     let mut x: u8 = 0;
-    while x < n {
+    while x < 64 {
         let i = x as usize;
-        if edges::any_passes(firsts[i], seconds[i], rows) {
+        if passes_at(every, x, firsts[i], seconds[i], rows) {
             out = words::with(out, x);
         }
         x += 1;
@@ -130,7 +142,7 @@ fn comparison_word(n: u8, rows: &[u64; 64], firsts: &[u64; 64], seconds: &[u64; 
 
 // The word of the same or differ at `at`, from the rows of that comparison.
 fn pair_word(
-    n: u8,
+    every: u64,
     count: usize,
     from: &[u8; 512],
     labels: &[u16; 512],
@@ -140,19 +152,19 @@ fn pair_word(
     at: usize,
     known: &[u64],
 ) -> u64
-    requires { ⌜ (n ≤ 64) × Held count (now from) (now to) × EntryKnown (now sheet) at (length (now known)) × (5 ≤ kindOf (entryAt (now sheet) at)) ⌝ }
-    ensures { λ r. ⌜ r ≡ pairWord n (now (rows .entry)) (edges count (now (from .entry)) (now (labels .entry)) (now (to .entry))) (now (known .entry)) (entryAt (now (sheet .entry)) at) ⌝ }
+    requires { ⌜ Held count (now from) (now to) × EntryKnown (now sheet) at (length (now known)) × (5 ≤ kindOf (entryAt (now sheet) at)) ⌝ }
+    ensures { λ r. ⌜ r ≡ pairWord every (now (rows .entry)) (edges count (now (from .entry)) (now (labels .entry)) (now (to .entry))) (now (known .entry)) (entryAt (now (sheet .entry)) at) ⌝ }
 {
     let first = sheet::first_way(sheet, at);
     let second = sheet::second_way(sheet, at);
     let firsts = end_rows(count, from, labels, to, sheet, first, known);
     let seconds = end_rows(count, from, labels, to, sheet, second, known);
-    comparison_word(n, rows, &firsts, &seconds)
+    comparison_word(every, rows, &firsts, &seconds)
 }
 
 // The word of the entry at `at`, from the words of the entries before it.
 fn entry_word(
-    n: u8,
+    every: u64,
     count: usize,
     from: &[u8; 512],
     labels: &[u16; 512],
@@ -163,26 +175,26 @@ fn entry_word(
     at: usize,
     known: &[u64],
 ) -> u64
-    requires { ⌜ (n ≤ 64) × Held count (now from) (now to) × EntryKnown (now sheet) at (length (now known)) ⌝ }
-    ensures { λ r. ⌜ r ≡ entryWord (tables n count (now (from .entry)) (now (labels .entry)) (now (to .entry)) (now (same .entry)) (now (differ .entry))) (now (known .entry)) (entryAt (now (sheet .entry)) at) ⌝ }
+    requires { ⌜ Held count (now from) (now to) × EntryKnown (now sheet) at (length (now known)) ⌝ }
+    ensures { λ r. ⌜ r ≡ entryWord (tables every count (now (from .entry)) (now (labels .entry)) (now (to .entry)) (now (same .entry)) (now (differ .entry))) (now (known .entry)) (entryAt (now (sheet .entry)) at) ⌝ }
 {
     let kind = sheet::kind(sheet, at);
     if kind < sheet::KIND_WAY {
-        return plain_word(words::full(n), sheet, at, known);
+        return plain_word(every, sheet, at, known);
     }
     if kind == sheet::KIND_WAY {
         let way = sheet::first_way(sheet, at);
-        return way_word(words::full(n), count, from, labels, to, sheet, way, known);
+        return way_word(every, count, from, labels, to, sheet, way, known);
     }
     if kind == sheet::KIND_SAME {
-        return pair_word(n, count, from, labels, to, same, sheet, at, known);
+        return pair_word(every, count, from, labels, to, same, sheet, at, known);
     }
-    pair_word(n, count, from, labels, to, differ, sheet, at, known)
+    pair_word(every, count, from, labels, to, differ, sheet, at, known)
 }
 
-// Writes the words of the first `upto` entries of an accepted sheet, from the front.
+// Writes the words of the first `upto` entries of an accepted sheet, from the front, over the nodes of `every`.
 pub fn evaluate(
-    n: u8,
+    every: u64,
     count: usize,
     from: &[u8; 512],
     labels: &[u16; 512],
@@ -193,13 +205,24 @@ pub fn evaluate(
     upto: usize,
     known: &mut [u64],
 )
-    requires { ⌜ (n ≤ 64) × Held count (now from) (now to) × EntriesFit (now sheet) upto (length (now known)) ⌝ }
-    ensures { λ _. ⌜ now (known .exit) ≡ evaluated (tables n count (now (from .entry)) (now (labels .entry)) (now (to .entry)) (now (same .entry)) (now (differ .entry))) (now (sheet .entry)) upto (now (known .entry)) ⌝ }
+    requires { ⌜ Held count (now from) (now to) × EntriesFit (now sheet) upto (length (now known)) ⌝ }
+    ensures { λ _. ⌜ now (known .exit) ≡ evaluated (tables every count (now (from .entry)) (now (labels .entry)) (now (to .entry)) (now (same .entry)) (now (differ .entry))) (now (sheet .entry)) upto (now (known .entry)) ⌝ }
 {
     let mut at = sheet::entry_start(sheet, Question(0));
     let mut k = 0;
     while k < upto {
-        known[k] = entry_word(n, count, from, labels, to, same, differ, sheet, at, known);
+        known[k] = entry_word(
+            every,
+            count,
+            from,
+            labels,
+            to,
+            same,
+            differ,
+            sheet,
+            at,
+            known,
+        );
         at = sheet::next_start(sheet, at);
         k += 1;
     }

@@ -10,6 +10,8 @@ use Rattle.theory.specs.Bisimulation.{twoSided}
 use Rattle.theory.specs.Rounds.{matched}
 use Rattle.book.specs.Book.{cellsOf}
 use Rattle.book.specs.BookGraph.{graphOf}
+use Rattle.book.specs.SeenLaws.{seen-all, hides-none}
+use Rattle.book.specs.declared.Hidden.{Hidden}
 use Rattle.book.specs.AcceptedLaws.{book-sizes}
 use Rattle.compare_laws.specs.Places.{unparted, zeros}
 use Rattle.compare_laws.specs.PlaceLaws.{among-at}
@@ -27,32 +29,38 @@ use Rattle.listing_lines.specs.Lines.{pairLines, pairMost, Sized}
 use Rattle.listing_lines.specs.Laws.{pairLines-ext}
 use Rattle.listing_text.specs.Listing.{mostListing, matchedLines, Listed, MatchMap}
 
+-- Nothing is hidden.
+abbrev hidden : Hidden
+hidden = record { left = 0; right = 0 }
+
 module _ (l r : List ℕ) (c : ℕ) (g : Listed l r c) where
   pairs-few : pairsOf l r ≤ 1024
   pairs-few = mul-le-mul (g .few-left) (g .few-right)
 
   module _ (map room scratch map′ room′ scratch′ : List ℕ) (a : CompareAnswer) (h : length map ≡ pairsOf l r) (f : 65536 ≡ length room) (k : 65536 ≡ length scratch) where
-    served : rightAnswer twoSided l r c (lent map room scratch) ≡ Compared (length (comparedSheet twoSided l r c)) (zeros (comparedMap twoSided l r c))
+    served : rightAnswer twoSided l r c hidden (lent map room scratch) ≡ Compared (length (comparedSheet twoSided l r c hidden)) (zeros (comparedMap twoSided l r c hidden))
     served =
-        accepts-compared l r c (length map) (length room) (length scratch) (length (comparedSheet twoSided l r c)) (zeros (comparedMap twoSided l r c))
+        accepts-compared l r c hidden (length map) (length room) (length scratch) (length (comparedSheet twoSided l r c hidden)) (zeros (comparedMap twoSided l r c hidden))
         (record {
           bound = g .bounded;
           left = g .left;
           right = g .right;
+          leftWord = hides-none l;
+          rightWord = hides-none r;
           map = h;
           roomy = omega (arith, room-most (sheetVersion l r) (pairsOf l r) 1024 pairs-few);
           spare = omega (arith, pairs-few);
         })
 
     -- the zeros of the map are the matched pairs
-    pub map-filled : ((i : ℕ) → Fits w8 (getD l i 0)) → ((i : ℕ) → Fits w8 (getD r i 0)) → IsCompare twoSided l r c (lent map room scratch) a (lent map′ room′ scratch′)
+    pub map-filled : ((i : ℕ) → Fits w8 (getD l i 0)) → ((i : ℕ) → Fits w8 (getD r i 0)) → IsCompare twoSided l r c hidden (lent map room scratch) a (lent map′ room′ scratch′)
         → MatchMap l r c map′
     unfolding leftBy
     map-filled bl br s =
         let books : Given l r c =
         record { bytes = (record { each = λ i. bl i .fits }, record { each = λ i. br i .fits }); left = g .left; right = g .right; bound = g .bounded } in
-        let e : map′ ≡ comparedMap twoSided l r c = ap (λ (x : Lists). x .map) (s .lists ∙ ap (leftBy twoSided l r c (lent map room scratch)) served) in
-        rw e (record { places = map-places twoSided books; matching = zeros-matched books })
+        let e : map′ ≡ comparedMap twoSided l r c hidden = ap (λ (x : Lists). x .map) (s .lists ∙ ap (leftBy twoSided l r c hidden (lent map room scratch)) served) in
+        rw e (record { places = map-places twoSided hidden books; matching = rw (← seen-all l, ← seen-all r) (zeros-matched hidden books) })
 
   -- ---- the listing of the map
 

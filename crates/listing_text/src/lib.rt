@@ -6,6 +6,7 @@ ghost use Rattle.book.specs.Book.{bookRefusal};
 ghost use Rattle.sheet.specs.Sheet.{mostBound};
 ghost use Rattle.text.specs.Text.{Wrote};
 ghost use Rattle.compare.specs.Compare.{pairsOf};
+use book::Hidden;
 ghost use Rattle.listing_text.specs.Listing.{mostListing, matchedLines, manyCells, acceptedLines, bookLines, splitLines, boundRefused, listingOf, IsSplit, MatchMap, Listed, IsListing};
 
 // A text: the first `length` bytes.
@@ -49,7 +50,17 @@ fn fill(left: &[u8], right: &[u8], c: u8, map: &mut [u16])
 {
     let mut room = io::large_buffer();
     let mut scratch = io::large_buffer();
-    compare::compare(left, right, c as usize, true, map, &mut room, &mut scratch);
+    let hidden = Hidden { left: 0, right: 0 };
+    compare::compare(
+        left,
+        right,
+        c as usize,
+        hidden,
+        true,
+        map,
+        &mut room,
+        &mut scratch,
+    );
 }
 
 // Writes the listing of two accepted books of at most 32 cells.

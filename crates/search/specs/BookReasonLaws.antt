@@ -1,4 +1,4 @@
--- What a caller cites that has read an accepted book: its lists show its graph.
+-- What a caller cites that has read an accepted book: its lists show the graph that is seen.
 use mathlib.Core.Bool.{Bool, true, false, So, cond, not}
 use mathlib.Core.Path.{_≡_, refl, sym, ap, _∙_}
 use mathlib.Core.Logic.{_↔_}
@@ -13,14 +13,15 @@ use Rattle.theory.specs.Graph.{Comparison, same, differ, compared}
 use Rattle.words.specs.Words.{bit, wordOf}
 use Rattle.words.specs.Laws.{bit-zero, bit-wordOf, bit-wordOf-lt}
 use Rattle.book.specs.Book.{cellsOf}
-use Rattle.book.specs.BookGraph.{dataValue, passes, graphOf}
-use Rattle.book.specs.AcceptedLaws.{book-sizes, book-graph, cell-few}
+use Rattle.book.specs.BookGraph.{dataValue, passes, seenOf}
+use Rattle.book.specs.AcceptedLaws.{book-sizes, cell-few}
+use Rattle.book.specs.SeenLaws.{seen-graph}
 use Rattle.edges.specs.Edges.{rowsTo}
 use Rattle.edges.specs.BookEdges.{passingTo, passingRows, passing}
 use Rattle.edges.specs.BookLaws.{passing-rows}
 use Rattle.search_links.specs.Hops.{viewOf}
 use Rattle.search_links.specs.Sets.{rowAt, Valued}
-use Rattle.search_links.specs.BookHopLaws.{book-opened, book-out}
+use Rattle.search_links.specs.BookHopLaws.{seen-opened, seen-out}
 use Rattle.search.specs.Reasons.{numberOf, Charted}
 use Rattle.search.specs.BookReasons.{Read}
 
@@ -48,25 +49,25 @@ passes-alike t a b c e f =
     let ((_, k), q) = simp and-iff at f in
     simp and-iff ((h, k), compared-alike dataValue t a b c p q)
 
-module _ (s fs ls ts starts ends : List ℕ) (d : Read s fs ls ts starts ends) where
+module _ (h : ℕ) (s : List ℕ) (count : ℕ) (fs ls ts starts ends : List ℕ) (d : Read h s count fs ls ts starts ends) where
   -- row x of a comparison, in the table
-  row-is : (t : Comparison) (x : ℕ) → x < 64 → rowAt ends (numberOf t) x ≡ getD (passing s t) x 0
+  row-is : (t : Comparison) (x : ℕ) → x < 64 → rowAt ends (numberOf t) x ≡ getD (passing h s t) x 0
   row-is same x l = d .rows .first x l
   row-is differ x l = d .rows .second x l
 
   -- it has the cells that pass with cell x, and those of no others
   row-iff : (t : Comparison) (x y : ℕ) → x < 64
-      → So (bit (rowAt ends (numberOf t) x) y) ↔ ((x < cellsOf s) × (y < cellsOf s) × So (graphOf s .ends t x y))
+      → So (bit (rowAt ends (numberOf t) x) y) ↔ ((x < cellsOf s) × (y < cellsOf s) × So (seenOf h s .ends t x y))
   unfolding passingRows passingTo rowsTo
   row-iff t x y l = rw (row-is t x l ∙ list-at 64 _ x 0 l) (by (ltb x (cellsOf s)) refl)
     where
       by : (b : Bool) → ltb x (cellsOf s) ≡ b
-          → So (bit (cond b (wordOf (cellsOf s) (graphOf s .ends t x)) 0) y) ↔ ((x < cellsOf s) × (y < cellsOf s) × So (graphOf s .ends t x y))
+          → So (bit (cond b (wordOf (cellsOf s) (seenOf h s .ends t x)) 0) y) ↔ ((x < cellsOf s) × (y < cellsOf s) × So (seenOf h s .ends t x y))
       by true e = (
-        λ h. let (i, j) = simp (bit-wordOf, and-iff, ltb-iff) at h in (ltb-iff _ _ .0 e, i, j),
+        λ o. let (i, j) = simp (bit-wordOf, and-iff, ltb-iff) at o in (ltb-iff _ _ .0 e, i, j),
         λ (_, i, j). simp (bit-wordOf, and-iff, ltb-iff) (i, j),
       )
-      by false e = (λ h. never (sym (bit-zero y) ∙ h), λ (i, _, _). never (sym e ∙ ltb-iff _ _ .1 i))
+      by false e = (λ o. never (sym (bit-zero y) ∙ o), λ (i, _, _). never (sym e ∙ ltb-iff _ _ .1 i))
 
   -- comparisons go by the recordings
   read-valued : Valued ends
@@ -87,18 +88,18 @@ module _ (s fs ls ts starts ends : List ℕ) (d : Read s fs ls ts starts ends) w
       number (suc zero) l = (differ, refl)
       number (suc (suc t)) l = absurd (omega arith)
 
-  -- the lists show the book's graph
-  pub read-charted : Charted (graphOf s) (viewOf starts ls ts) ends
+  -- the lists show the graph that is seen
+  pub read-charted : Charted (seenOf h s) (viewOf starts ls ts) ends
   read-charted = record {
     drawn = record {
-      formed = book-graph s (d .accepted);
+      formed = seen-graph h s (d .accepted);
       small = book-sizes s (d .accepted) .few;
-      hops = book-out s fs ls ts starts (d .accepted) (d .loaded) (d .table);
+      hops = seen-out h s count fs ls ts starts (d .accepted) (d .loaded) (d .table);
       rows = λ t x y lx ly.
-          ap (λ (w : ℕ). bit w y) (row-is t x (cell-few s x (d .accepted) lx) ∙ passing-rows s t (d .accepted) .row x lx)
-          ∙ bit-wordOf-lt (cellsOf s) (graphOf s .ends t x) y ly;
+          ap (λ (w : ℕ). bit w y) (row-is t x (cell-few s x (d .accepted) lx) ∙ passing-rows h s t (d .accepted) .row x lx)
+          ∙ bit-wordOf-lt (cellsOf s) (seenOf h s .ends t x) y ly;
       symmetric = λ t x y. passes-symmetric t _ _;
     };
-    opened = book-opened s fs ls ts starts (d .accepted) (d .loaded) (d .table);
+    opened = seen-opened h s count fs ls ts starts (d .accepted) (d .loaded) (d .table);
     valued = read-valued;
   }

@@ -1,6 +1,6 @@
 -- The links of an accepted book, loaded and with their table of starts, are the hops of its graph.
 use mathlib.Core.Bool.{Bool, true, false, cond}
-use mathlib.Core.Path.{_≡_, refl, sym, ap, ap₂, _∙_}
+use mathlib.Core.Path.{_≡_, refl, ap, ap₂, _∙_}
 use mathlib.Core.List.{List, [], _∷_, _++_, append-nil}
 use mathlib.Core.Logic.{⊎-elim}
 use Prim.Native.Nat.{ℕ, zero, suc, _+_, _-_, _≤_, _<_}
@@ -10,13 +10,13 @@ use borrow.Author.Tests.{eq-eqb, ne-eqb, leb-true, leb-false}
 use lib.Dec.{eqb, leb}
 use lib.ListN.{getD}
 use Rattle.theory.specs.Search.{list}
-use Rattle.theory.specs.TestLaws.{le-or-lt, list-at}
+use Rattle.theory.specs.TestLaws.{le-or-lt}
 use Rattle.theory.specs.Graph.{Link}
 use Rattle.theory.specs.Path.{Hop, hop, out}
 use Rattle.words.specs.Laws.{first-there, first-least, first-le}
-use Rattle.book.specs.Book.{linksOf, linkAt, bookRefusal}
-use Rattle.book.specs.BookGraph.{graphOf}
-use Rattle.book.specs.AcceptedLaws.{book-from}
+use Rattle.book.specs.Book.{bookRefusal}
+use Rattle.book.specs.BookGraph.{seenOf}
+use Rattle.book.specs.SeenLaws.{seen-from}
 use Rattle.edges.specs.Edges.{edgeAt, edges, Held}
 use Rattle.edges.specs.BookEdges.{Loaded}
 use Rattle.search_links.specs.Hops.{viewOf, hopAt, hopsFrom, hopsOf, Opened, lead, Starts}
@@ -138,21 +138,11 @@ module _ (fs ls ts : List ℕ) where
                 after i p q e = omega (arith, from-at (x + 1) i (omega arith) (omega (arith, lead-le count fs (x + 1))))
 
 -- ---- an accepted book
-module _ (s fs ls ts starts : List ℕ) (r : bookRefusal s ≡ 0) (d : Loaded s fs ls ts) (t : Starts (linksOf s) fs starts) where
-  from-is : (k : ℕ) → k < linksOf s → getD fs k 0 ≡ linkAt s k .from
-  from-is k h =
-      ap (λ (l : Link). l .from)
-      (sym (list-at (linksOf s) (edgeAt fs ls ts) k (edgeAt fs ls ts 0) h)
-      ∙ ap (λ (ks : List Link). getD ks k (edgeAt fs ls ts 0)) (d .is)
-      ∙ list-at (linksOf s) (linkAt s) k (edgeAt fs ls ts 0) h)
+module _ (h : ℕ) (s : List ℕ) (count : ℕ) (fs ls ts starts : List ℕ) (r : bookRefusal s ≡ 0) (d : Loaded h s count fs ls ts) (t : Starts count fs starts) where
+  -- the search may read the links that are seen by number
+  pub seen-opened : Opened starts ts
+  seen-opened = links-opened fs ls ts starts count (d .held) t
 
-  -- the search may read its links by number
-  pub book-opened : Opened starts ts
-  book-opened = links-opened fs ls ts starts (linksOf s) (d .held) t
-
-  -- and finds the hops of its graph
-  pub book-out : (x : ℕ) → x < 64 → out (graphOf s .links) x ≡ hopsOf (viewOf starts ls ts) x
-  book-out x h =
-      rw (← d .is)
-      (links-out fs ls ts starts (linksOf s) (d .held) t
-      (λ j k l m. rw (from-is j (omega arith), from-is k m) (book-from s r j k l m)) x h)
+  -- and finds the hops of the graph that is seen
+  pub seen-out : (x : ℕ) → x < 64 → out (seenOf h s .links) x ≡ hopsOf (viewOf starts ls ts) x
+  seen-out x l = rw (← d .is) (links-out fs ls ts starts count (d .held) t (seen-from h s r count (edgeAt fs ls ts) (d .is)) x l)

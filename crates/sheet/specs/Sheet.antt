@@ -47,6 +47,10 @@ mostBound = 4
 abbrev pub mostEntries : ℕ
 mostEntries = 16385
 
+-- What a map has in place of an entry's number where a cell is hidden (02, 2026-07: "Map places with a hidden cell get 65,535"): no entry has it.
+abbrev pub hiddenPlace : ℕ
+hiddenPlace = 65535
+
 -- ---- an entry
 
 -- The largest kind.

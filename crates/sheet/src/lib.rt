@@ -29,6 +29,9 @@ pub const MOST_BOUND: u8 = 4;
 
 pub const MOST_ENTRIES: u16 = 16385;
 
+// What a map has in place of an entry's number where a cell is hidden.
+pub const HIDDEN_PLACE: u16 = 65535;
+
 const MOST_KIND: u8 = KIND_DIFFER;
 
 const MOST_STEPS: usize = 60;

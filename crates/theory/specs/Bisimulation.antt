@@ -2,9 +2,9 @@
 use mathlib.Core.Bool.{Bool, true, cond}
 use mathlib.Core.Path.{_≡_}
 use mathlib.Core.List.{[], _∷_}
-use Prim.Native.Nat.{ℕ, _<_, _≤_}
+use Prim.Native.Nat.{ℕ, _≤_}
 use lib.ListN.{length}
-use Rattle.theory.specs.Graph.{Comparison, Graph, linked}
+use Rattle.theory.specs.Graph.{Comparison, Graph, Node, linked}
 use Rattle.theory.specs.Expression.{NodeExpr, Positive}
 use Rattle.theory.specs.Path.{Path, Walk, end}
 
@@ -61,8 +61,8 @@ pub record Zig (l r : Graph) (c : ℕ) (z : Pairs) (a b : ℕ) : Type 0 where
 
 -- A relation among the nodes for whose pairs the clauses hold from left to right.
 pub record Simulation (l r : Graph) (c : ℕ) (z : Pairs) : Type 0 where
-  pub left : (a b : ℕ) → z a b → a < l .size
-  pub right : (a b : ℕ) → z a b → b < r .size
+  pub left : (a b : ℕ) → z a b → Node l a
+  pub right : (a b : ℕ) → z a b → Node r b
   pub zig : (a b : ℕ) → z a b → Zig l r c z a b
 
 -- "Both hold with the sides exchanged" (000: Zag=, Zag).

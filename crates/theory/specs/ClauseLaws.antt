@@ -6,7 +6,7 @@ use mathlib.Core.List.{[], _∷_, List·Memᴰ, List·Memᴰ·head, List·Memᴰ
 use Prim.Native.Nat.{ℕ, _<_}
 use native.Mathlib.Omega.{arith}
 use Rattle.theory.specs.TestLaws.{eqb-iff, and-iff, if-iff, any-iff, every-iff}
-use Rattle.theory.specs.Graph.{Comparison, same, differ, comparisons, Graph, linked}
+use Rattle.theory.specs.Graph.{Comparison, same, differ, comparisons, Graph, Node, linked}
 use Rattle.theory.specs.Path.{hop, Path, Walk, end}
 use Rattle.theory.specs.WalkLaws.{out-iff, paths-iff}
 use Rattle.theory.specs.FollowLaws.{follow-below}
@@ -21,7 +21,7 @@ listed differ = List·Memᴰ·tail (List·Memᴰ·head refl)
 
 -- A link to a related node leads to one of the nodes.
 abbrev pub Into : Graph → Relation → Type 0
-Into r z = (b x y h : ℕ) → So (linked r b x y) → So (z h y) → y < r .size
+Into r z = (b x y h : ℕ) → So (linked r b x y) → So (z h y) → Node r y
 
 module _ (r : Graph) (z : Relation) (into : Into r z) where
   image : (p : Path) (b y : ℕ) → So (follow r z p b y) → Image r (pairs z) p b y
@@ -39,7 +39,7 @@ module _ (r : Graph) (z : Relation) (into : Into r z) where
   followed (h ∷ p) [] b k a = absurd a
   followed (h ∷ p) (s ∷ p′) b k a =
       let e : So (linked r b (h .label) (s .to)) = rw (a .0) (k .0) in
-      simp (any-iff, and-iff) (s .to, into b (h .label) (s .to) (h .to) e (a .1), ((e, a .1), followed p p′ (s .to) (k .1) (a .2)))
+      simp (any-iff, and-iff) (s .to, into b (h .label) (s .to) (h .to) e (a .1) .below, ((e, a .1), followed p p′ (s .to) (k .1) (a .2)))
 
   pub follow-iff : (p : Path) (b y : ℕ) → So (follow r z p b y) ↔ Image r (pairs z) p b y
   follow-iff p b y = (image p b y, λ i. rw (← i .last) (followed p (i .path) b (i .walk) (i .alike)))
@@ -66,7 +66,7 @@ module _ (r : Graph) (z : Relation) (into : Into r z) where
         },
         λ k. (
           λ s e. (let t = k .one (s .label) (s .to) e in
-              (t .0, into b (s .label) (t .0) (s .to) (t .1) (t .2), (t .1, t .2))),
+              (t .0, into b (s .label) (t .0) (s .to) (t .1) (t .2) .below, (t .1, t .2))),
           λ p u q v t _. k .two t p q (u .1) (v .1) (u .0) (v .0),
         ),
       )

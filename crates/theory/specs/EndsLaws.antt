@@ -11,7 +11,7 @@ use Rattle.theory.specs.Meaning.{reach, holds}
 module _ (g : Graph) (ends : Comparison → ℕ → ℕ → Bool) (agree : (t : Comparison) (y z : ℕ) → y < g .size → z < g .size → g .ends t y z ≡ ends t y z) where
   -- The graph with these comparisons.
   abbrev other : Graph
-  other = record { size = g .size; links = g .links; ends = ends }
+  other = record { size = g .size; shown = g .shown; links = g .links; ends = ends }
 
   mutual
     unfolding reach holds

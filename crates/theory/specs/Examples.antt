@@ -5,8 +5,9 @@ use mathlib.Core.Logic.{⊎-elim}
 use mathlib.Core.List.{List, [], _∷_, map, List·Memᴰ, List·Memᴰ·not-nil, List·Memᴰ·cases-cons}
 use Prim.Native.Nat.{ℕ, _*_, _<_}
 use native.Mathlib.Omega.{arith}
-use lib.Dec.{leb}
+use lib.Dec.{leb, ltb}
 use lib.ListN.{getD}
+use borrow.Author.Tests.{lt-ltb}
 use Rattle.theory.specs.Search.{any, every, list}
 use Rattle.theory.specs.Graph.{comparisons, differ, Link, link, Graph, compared, dataGraph, WellFormed, Inside, has}
 use Rattle.theory.specs.Expression.{NodeExpr, stay, step, compare}
@@ -15,6 +16,7 @@ use Rattle.theory.specs.Bound.{len, ml, depth}
 use Rattle.theory.specs.Path.{end, out, onward, paths}
 use Rattle.theory.specs.Bisimulation.{twoSided, Greatest}
 use Rattle.theory.specs.Rounds.{follow, met, twoPaths, oneLink, zigs, zags, Table, related, table, round, rounds, settled}
+use Rattle.theory.specs.WalkLaws.{has-inside, data-formed}
 use Rattle.theory.specs.GreatestLaws.{greatest}
 
 -- A graph whose links stay among its nodes.
@@ -24,7 +26,7 @@ pub record Sound : Type 0 where
 
 -- n nodes with the data values vs and the links ks
 abbrev pub sound : (n : ℕ) → List ℕ → (ks : List Link) → Inside n ks → Sound
-sound n vs ks h = record { graph = dataGraph n ks (λ x. getD vs x 0); fits = record { inside = h } }
+sound n vs ks h = record { graph = dataGraph n ks (λ x. getD vs x 0); fits = data-formed n ks _ h }
 
 -- A's left book
 unfoldable pub leftA : Sound
@@ -35,6 +37,21 @@ leftA = sound 3 (5 ∷ 5 ∷ 6 ∷ []) (link 0 1 1 ∷ link 0 1 2 ∷ []) (omega
 unfoldable pub rightA : Sound
 unfolding Inside
 rightA = sound 2 (5 ∷ 5 ∷ []) (link 0 1 1 ∷ []) (omega arith)
+
+-- A's left book with its last cell hidden
+unfoldable pub hiddenA : Sound
+unfolding Inside
+hiddenA =
+    record {
+      graph = record { size = 3; shown = λ x. ltb x 2; links = ks; ends = compared (λ x. getD (5 ∷ 5 ∷ 6 ∷ []) x 0) };
+      fits = record {
+        inside = omega arith;
+        seen = λ x a y e. let (h, k) = has-inside 2 ks x a y (omega arith) e in (lt-ltb x 2 h, lt-ltb y 2 k);
+      };
+    }
+  where
+    ks : List Link
+    ks = link 0 1 1 ∷ []
 
 -- one cell with the recording v
 unfoldable pub one : ℕ → Sound
@@ -63,7 +80,7 @@ fork x y h k =
     sound 5 (5 ∷ 7 ∷ 7 ∷ 5 ∷ 6 ∷ []) (link 0 1 1 ∷ link 0 1 2 ∷ link 1 1 x ∷ link 2 1 y ∷ link 2 2 2 ∷ [])
     (omega arith)
 
--- An expression that is claimed to distinguish a left node from a right one: within the bound, no deeper than left nodes × right nodes, true at the left
+-- An expression that is claimed to distinguish a left node from a right one: within the bound, no deeper than n × m, true at the left
 -- node and false at the right one.
 pub record Claim : Type 0 where
   pub expression : NodeExpr
@@ -82,7 +99,8 @@ pub record Row : Type 0 where
 abbrev pub row : Sound → Sound → ℕ → Table → List Claim → Row
 row l r c t qs = record { left = l; right = r; bound = c; pairs = t; claims = qs }
 
--- The table. The last row is none of 01's examples: related ends would do there, related cells at each place do not.
+-- The table. The last two rows are none of 01's examples. In the first of them related ends would do, related cells at each place do not; in the second a
+-- cell is hidden (02, 2026-07).
 unfoldable pub rows : List Row
 rows =
     -- P1, with "differ: stay, step 1", which parts (0,0)
@@ -107,6 +125,8 @@ rows =
     ∷ row (fork 3 4 (omega arith) (omega arith)) (fork 4 3 (omega arith) (omega arith)) 2
     ((false ∷ false ∷ false ∷ false ∷ false ∷ []) ∷ (false ∷ true ∷ false ∷ false ∷ false ∷ []) ∷ (false ∷ false ∷ true ∷ false ∷ false ∷ [])
     ∷ (false ∷ false ∷ false ∷ true ∷ true ∷ []) ∷ (false ∷ false ∷ false ∷ true ∷ true ∷ []) ∷ []) []
+    -- P1 without the cell that made the difference
+    ∷ row hiddenA rightA 1 ((true ∷ false ∷ []) ∷ (false ∷ true ∷ []) ∷ (false ∷ false ∷ []) ∷ []) []
     ∷ []
 
 -- The pairs of a row, and for each of its claims whether it holds.
@@ -133,7 +153,7 @@ claimed x = record { pairs = x .pairs; claims = map (λ q. true) (x .claims) }
 
 -- Every row holds.
 pub as-claimed : map computed rows ≡ map claimed rows
-unfolding rows leftA rightA one chain loop two fork settled rounds round table zigs zags oneLink twoPaths comparisons met follow any every list out has paths onward end compared reach holds len ml depth
+unfolding rows leftA hiddenA rightA one chain loop two fork settled rounds round table zigs zags oneLink twoPaths comparisons met follow any every list out has paths onward end compared reach holds len ml depth
 as-claimed = refl
 
 at-each : {A : Type 0} (f g : Row → A) (xs : List Row) → map f xs ≡ map g xs → (x : Row) → List·Memᴰ x xs → f x ≡ g x

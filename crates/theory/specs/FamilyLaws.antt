@@ -2,18 +2,18 @@
 use mathlib.Core.Bool.{true}
 use mathlib.Core.Logic.{⊎-elim}
 use mathlib.Core.Path.{_≡_, refl}
-use Prim.Native.Nat.{ℕ, zero, suc, _<_, _≤_}
+use Prim.Native.Nat.{ℕ, zero, suc, _≤_}
 use native.Mathlib.Omega.{arith}
 use native.Mathlib.Nat.{le-suc-iff}
-use Rattle.theory.specs.Graph.{Graph, WellFormed}
+use Rattle.theory.specs.Graph.{Graph, Node, WellFormed}
 use Rattle.theory.specs.Bisimulation.{Relation, flip, pairs, Zig, Sides, twoSided, Sided}
 use Rattle.theory.specs.Rounds.{after}
 use Rattle.theory.specs.GreatestLaws.{sided-iff, next-iff, descends, after-inside}
 
 -- Such a family, with the clauses of one side or of both.
 pub record Family (s : Sides) (l r : Graph) (c : ℕ) (z : ℕ → Relation) : Type 0 where
-  pub left : (k a b : ℕ) → z k a b ≡ true → a < l .size
-  pub right : (k a b : ℕ) → z k a b ≡ true → b < r .size
+  pub left : (k a b : ℕ) → z k a b ≡ true → Node l a
+  pub right : (k a b : ℕ) → z k a b ≡ true → Node r b
   pub down : (k a b : ℕ) → z (suc k) a b ≡ true → z k a b ≡ true
   pub zig : (k a b : ℕ) → z (suc k) a b ≡ true → Zig l r c (pairs (z k)) a b
   pub zag : s ≡ twoSided → (k a b : ℕ) → z (suc k) a b ≡ true → Zig r l c (pairs (flip (z k))) b a

@@ -1,9 +1,9 @@
 -- The rounds descend, settle within as many rounds as there are pairs, and settle to the greatest.
 --
 -- A round keeps a pair exactly when the clauses hold for it under the relation before (`round-iff`), so each relation is within the one before, and as
--- long as the table changes the number of its pairs falls. It starts at n × m, so after n × m rounds the table stands still (`last`, `fixed`), and a
+-- long as the table changes the number of its pairs falls. It starts at no more than n × m, so after n × m rounds the table stands still (`last`, `fixed`), and a
 -- relation that a round leaves as it is has only pairs whose clauses hold under itself: it is a simulation, or a bisimulation (`sided-iff`).
--- Every other lies within it: it lies within the first table, which has all pairs; and if it lies within one round's relation it lies within the next,
+-- Every other lies within it: it lies within the first table, which has all pairs of nodes; and if it lies within one round's relation it lies within the next,
 -- because clauses that hold under a relation hold under any larger one (`zig-near`, `within`). Nothing here asks whether that other one can be computed.
 use mathlib.Core.Bool.{true, false, So}
 use mathlib.Core.Path.{_≡_, refl, sym, ap, _∙_}
@@ -13,10 +13,10 @@ use Prim.Native.Nat.{ℕ, zero, suc, _*_, _≤_, _<_, suc-le-suc}
 use native.Mathlib.Nat.{le-of-eq, not-suc-le-zero, le-of-suc-le-suc}
 use native.Mathlib.Omega.{arith}
 use lib.ListN.{length, getD}
-use Rattle.theory.specs.TestLaws.{never, le-or-lt, and-iff, list-at, list-past, list-ext}
-use Rattle.theory.specs.Graph.{Graph, WellFormed, linked}
+use Rattle.theory.specs.TestLaws.{never, le-or-lt, and-iff, test-eq, list-at, list-past, list-ext}
+use Rattle.theory.specs.Graph.{Graph, Node, WellFormed, linked}
 use Rattle.theory.specs.Path.{Hop, hop, Path, Walk, end}
-use Rattle.theory.specs.WalkLaws.{linked-inside}
+use Rattle.theory.specs.WalkLaws.{linked-node}
 use Rattle.theory.specs.Bisimulation.{Relation, flip, Pairs, pairs, Under, Alike, Image, Zig, Sides, oneSided, twoSided, Sided, Greatest}
 use Rattle.theory.specs.Rounds.{Table, related, table, zigs, zags, round, rounds, after, settled}
 use Rattle.theory.specs.ClauseLaws.{apart, zigs-iff, zags-iff}
@@ -34,7 +34,7 @@ module _ (n m : ℕ) (z : Relation) where
       (λ h. ⊎-elim (λ k. never (sym (ap (λ row. getD row b false) (list-at n _ a [] h) ∙ list-past m _ b false k) ∙ e)) (λ k. (h, k)) (le-or-lt m b))
       (le-or-lt n a)
 
-  -- what a table relates: nodes in range that its relation relates
+  -- what a table relates: numbers in range that its relation relates
   pub related-iff : (a b : ℕ) → So (related (table n m z) a b) ↔ ((a < n) × (b < m) × So (z a b))
   related-iff a b =
       (λ e. let t = related-in a b e in (t .0, t .1, rw (← related-at a b (t .0) (t .1)) e), λ t. rw (related-at a b (t .0) (t .1)) (t .2))
@@ -95,8 +95,8 @@ module _ {l r : Graph} {z y : Pairs} where
 
 -- What a round asks of a pair that it keeps.
 pub record Kept (s : Sides) (l r : Graph) (c : ℕ) (z : Pairs) (a b : ℕ) : Type 0 where
-  pub left : a < l .size
-  pub right : b < r .size
+  pub left : Node l a
+  pub right : Node r b
   pub before : z a b
   pub zig : Zig l r c z a b
   pub zag : s ≡ twoSided → Zig r l c (λ y x. z x y) b a
@@ -126,27 +126,43 @@ unfoldable pub count : ℕ → ℕ → Table → ℕ
 count n m t = sum n (λ a. sum m (λ b. bit (related t a b)))
 
 module _ (s : Sides) {l r : Graph} (c : ℕ) (wl : WellFormed l) (wr : WellFormed r) where
-  pub round-iff : (t : Table) (a b : ℕ) → So (related (round s l r c t) a b) ↔ Kept s l r c (pairs (related t)) a b
-  unfolding round
-  round-iff t a b =
+  -- the first relation has the pairs of nodes
+  pub start-iff : (a b : ℕ) → So (after s l r c 0 a b) ↔ (Node l a × Node r b)
+  unfolding rounds
+  start-iff a b =
       simp (related-iff, and-iff) (
-        λ (h, k, (e, (i, j))). record { left = h; right = k; before = e; zig = forth k .0 i; zag = back h .0 j },
-        λ p. (p .left, p .right, (p .before, (forth (p .right) .1 (p .zig), back (p .left) .1 (p .zag)))),
+        λ (h, k, (i, j)). (record { below = h; seen = i }, record { below = k; seen = j }),
+        λ (n, m). (n .below, m .below, (n .seen, m .seen)),
+      )
+
+  pub descends : (k : ℕ) → Under (pairs (after s l r c (suc k))) (pairs (after s l r c k))
+  unfolding rounds round
+  descends k a b e = let (_, _, h) = related-iff _ _ _ a b .0 e in and-iff _ _ .0 h .0
+
+  -- every round's relation is one among the nodes
+  pub after-inside : (k a b : ℕ) → So (after s l r c k a b) → Node l a × Node r b
+  after-inside zero a b e = start-iff a b .0 e
+  after-inside (suc k) a b e = after-inside k a b (descends k a b e)
+
+  pub round-iff : (t : Table) → ((a b : ℕ) → So (related t a b) → Node l a × Node r b)
+      → (a b : ℕ) → So (related (round s l r c t) a b) ↔ Kept s l r c (pairs (related t)) a b
+  unfolding round
+  round-iff t inside a b =
+      simp (related-iff, and-iff) (
+        λ (h, k, (e, (i, j))). let (n, m) = inside a b e in record { left = n; right = m; before = e; zig = forth k .0 i; zag = back h .0 j },
+        λ p. (p .left .below, p .right .below, (p .before, (forth (p .right .below) .1 (p .zig), back (p .left .below) .1 (p .zag)))),
       )
     where
       forth : b < r .size → So (zigs l r c (related t) a b) ↔ Zig l r c (pairs (related t)) a b
-      forth = zigs-iff r (related t) (λ b x y h e i. linked-inside wr b x y e) l c a b
+      forth = zigs-iff r (related t) (λ b x y h e i. linked-node wr b x y e) l c a b
 
       back : a < l .size → So (zags s l r c (related t) a b) ↔ (s ≡ twoSided → Zig r l c (pairs (flip (related t))) b a)
-      back = zags-iff s l r c (related t) a b (λ b x y h e i. linked-inside wl b x y e)
+      back = zags-iff s l r c (related t) a b (λ b x y h e i. linked-node wl b x y e)
 
   -- a round keeps the pairs whose clauses hold under the relation before
   pub next-iff : (k a b : ℕ) → So (after s l r c (suc k) a b) ↔ Kept s l r c (pairs (after s l r c k)) a b
   unfolding rounds
-  next-iff k = round-iff (rounds s l r c k)
-
-  pub descends : (k : ℕ) → Under (pairs (after s l r c (suc k))) (pairs (after s l r c k))
-  descends k a b e = next-iff k a b .0 e .before
+  next-iff k = round-iff (rounds s l r c k) (after-inside k)
 
   -- A pair that a round keeps is kept by the next one too, if the round dropped no pair near it.
   pub near-kept : (d k a b : ℕ) → 1 ≤ d → c ≤ d → ((x y : ℕ) → Near l d a x → Near r d b y → So (after s l r c k x y) → So (after s l r c (suc k) x y))
@@ -161,16 +177,9 @@ module _ (s : Sides) {l r : Graph} (c : ℕ) (wl : WellFormed l) (wr : WellForme
         zag = λ q. zig-near d one all (λ y x n m. more x y m n) (t .zag q);
       })
 
-  -- every round's relation is one among the nodes
-  pub after-inside : (k a b : ℕ) → So (after s l r c k a b) → (a < l .size) × (b < r .size)
-  unfolding rounds
-  after-inside zero a b e = let t = related-iff _ _ _ a b .0 e in (t .0, t .1)
-  after-inside (suc k) a b e = let t = next-iff k a b .0 e in (t .left, t .right)
-
   -- every simulation (or bisimulation) lies within every round
   pub within : (z : Pairs) → Sided s l r c z → (k : ℕ) → Under z (pairs (after s l r c k))
-  unfolding rounds
-  within z m zero a b e = let p = sided-iff s l r c z .0 m a b e in related-iff _ _ _ a b .1 (p .left, p .right, refl)
+  within z m zero a b e = let p = sided-iff s l r c z .0 m a b e in start-iff a b .1 (p .left, p .right)
   within z m (suc k) a b e =
       let p = sided-iff s l r c z .0 m a b e in
       next-iff k a b .1 (record {
@@ -186,7 +195,7 @@ module _ (s : Sides) {l r : Graph} (c : ℕ) (wl : WellFormed l) (wr : WellForme
   tabled zero = table-ext _ _ _ _ (λ a b h k. sym (related-at _ _ _ a b h k))
   tabled (suc k) = table-ext _ _ _ _ (λ a b h k. sym (related-at _ _ _ a b h k))
 
-  -- rounds that relate the same nodes have one table
+  -- rounds that relate the same numbers have one table
   rounds-ext : (j k : ℕ) → ((a b : ℕ) → a < l .size → b < r .size → after s l r c j a b ≡ after s l r c k a b) → rounds s l r c j ≡ rounds s l r c k
   rounds-ext j k h = tabled j ∙ table-ext _ _ _ _ h ∙ sym (tabled k)
 
@@ -227,16 +236,15 @@ module _ (s : Sides) {l r : Graph} (c : ℕ) (wl : WellFormed l) (wr : WellForme
   unfolding settled
   greatest =
       record {
-        is = sided-iff s l r c _ .1 (λ a b e. round-iff (settled s l r c) a b .0 (rw fixed e));
+        is = sided-iff s l r c _ .1 (λ a b e. round-iff (settled s l r c) (after-inside (l .size * r .size)) a b .0 (rw fixed e));
         most = λ y m. within y m (l .size * r .size);
       }
 
   -- a round that drops no pair leaves the greatest
-  pub still-settled : (k : ℕ) → ((a b : ℕ) → a < l .size → b < r .size → after s l r c (suc k) a b ≡ after s l r c k a b)
-      → rounds s l r c k ≡ settled s l r c
+  pub still-settled : (k : ℕ) → Under (pairs (after s l r c k)) (pairs (after s l r c (suc k))) → rounds s l r c k ≡ settled s l r c
   unfolding settled rounds
   still-settled k h =
-      let e = rounds-ext (suc k) k h in
+      let e = rounds-ext (suc k) k (λ a b _ _. test-eq _ _ (descends k a b) (h a b)) in
       ⊎-elim (λ i. sym (stays (rounds s l r c) (count (l .size) (r .size)) down (round s l r c) (λ k. refl) k e (l .size * r .size) i))
       (λ i. last k (omega arith)) (le-or-lt k (l .size * r .size))
 

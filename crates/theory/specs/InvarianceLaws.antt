@@ -11,10 +11,10 @@
 use mathlib.Core.Bool.{true}
 use mathlib.Core.Logic.{inl, inr}
 use mathlib.Core.Path.{_≡_, refl}
-use Prim.Native.Nat.{ℕ, suc, max, _≤_, _<_}
+use Prim.Native.Nat.{ℕ, suc, max, _≤_}
 use native.Mathlib.Omega.{arith}
 use native.Mathlib.Nat.{le-refl}
-use Rattle.theory.specs.Graph.{Comparison, Graph}
+use Rattle.theory.specs.Graph.{Comparison, Graph, Node}
 use Rattle.theory.specs.Expression.{PathExpr, NodeExpr, stay, step, test, seq, union, neg, conj, disj, exists, compare, PositivePath, Positive}
 use Rattle.theory.specs.Meaning.{reach, holds}
 use Rattle.theory.specs.Bound.{len, WithinPath, Within, depthBefore, testDepth, depth}
@@ -35,10 +35,10 @@ unfolding holds
 some-end f a b w g h =
     let (y, o, u) = simp facts at h in
     let (y′, u′, j) = g y u in
-    simp facts (y′, f .right _ _ _ j, u′)
+    simp facts (y′, f .right _ _ _ j .below, u′)
 
 -- Two expressions that pass a comparison from a pass it from b, if what follows a path that fits one of them takes it.
-two-ends : {l r : Graph} {c : ℕ} {z : Relation} (right : (a b : ℕ) → z a b ≡ true → b < r .size) (t : Comparison) (w v : PathExpr) (a b : ℕ)
+two-ends : {l r : Graph} {c : ℕ} {z : Relation} (right : (a b : ℕ) → z a b ≡ true → Node r b) (t : Comparison) (w v : PathExpr) (a b : ℕ)
     → z a b ≡ true → Zig l r c (pairs z) a b → len w ≤ c → len v ≤ c
     → ((p : Path) (y : ℕ) → Fits l w a p → follow r z p b y ≡ true → reach r w b y ≡ true)
     → ((p : Path) (y : ℕ) → Fits l v a p → follow r z p b y ≡ true → reach r v b y ≡ true)
@@ -50,7 +50,7 @@ two-ends {l} {r} {c} {z} right t w v a b i zig n m f g h =
     meet : (x y : ℕ) → Along l w a x → Along l v a y → l .ends t x y ≡ true → holds r (compare t w v) b ≡ true
     meet x y p q e =
         let d = zig .two t (p .path) (q .path) (omega arith) (omega arith) (p .walk) (q .walk) (rw (p .ends, q .ends) e) in
-        let (x′, o, (s, (y′, o′, (s′, e′)))) = simp facts at (met-iff r z (λ b x y h _. right h y) b t (p .path) (q .path) (right a b i) .1 d) in
+        let (x′, o, (s, (y′, o′, (s′, e′)))) = simp facts at (met-iff r z (λ b x y h _. right h y) b t (p .path) (q .path) (right a b i .below) .1 d) in
         simp facts (x′, o, (f (p .path) x′ (p .fits) s, (y′, o′, (g (q .path) y′ (q .fits) s′, e′))))
 
 mutual
@@ -69,7 +69,7 @@ mutual
       let (m, o, (u, t)) = simp facts at h in
       let (m′, u′, j) = find w f (n .0) (λ e. p e .0) (depthBefore v d) k a b m s i u in
       let (y′, t′, j′) = find v f (n .1) (λ e. p e .1) d (depthBefore v d) m m′ y (le-refl _) j t in
-      (y′, simp facts (m′, f .right _ _ _ j, (u′, t′)), j′)
+      (y′, simp facts (m′, f .right _ _ _ j .below, (u′, t′)), j′)
   find (union w v) f n p d k a b y s i h =
       elim (simp facts at h) [
         | inl u ↦ (let (y′, u′, j) = find w f (n .0) (λ e. p e .0) d k a b y (omega arith) i u in (y′, simp facts (inl u′), j))
@@ -88,7 +88,7 @@ mutual
       let j = follow-end r (z k) x₁ a b m i t₁ in
       simp facts (
         m,
-        f .right k (end a x₁) m j,
+        f .right k (end a x₁) m j .below,
         (carry w f (n .0) (λ e. p e .0) k a b m x₁ (omega arith) g₁ i t₁, carry v f (n .1) (λ e. p e .1) k (end a x₁) m y x₂ (omega arith) g₂ j t₂),
       )
   carry (union w v) f n p k a b y x s g i t =

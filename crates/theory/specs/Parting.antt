@@ -2,10 +2,10 @@
 use mathlib.Core.Bool.{true, false, _&&_}
 use mathlib.Core.List.{[], _∷_}
 use mathlib.Core.Path.{_≡_}
-use Prim.Native.Nat.{ℕ, _<_, _≤_}
+use Prim.Native.Nat.{ℕ, _≤_}
 use lib.ListN.{length}
 use Rattle.theory.specs.Search.{any}
-use Rattle.theory.specs.Graph.{Comparison, Graph, linked}
+use Rattle.theory.specs.Graph.{Comparison, Graph, Node, linked}
 use Rattle.theory.specs.Expression.{PathExpr, NodeExpr, stay, step, test, seq, exists, compare}
 use Rattle.theory.specs.Meaning.{holds}
 use Rattle.theory.specs.Bound.{Within, depth}
@@ -41,7 +41,7 @@ pub record Describes (s : Sides) (l r : Graph) (c d : ℕ) (z : Relation) (x : �
 
 -- chi describes every node of l among all nodes of r.
 abbrev pub Described : Sides → Graph → Graph → ℕ → ℕ → Relation → (ℕ → NodeExpr) → Type 0
-Described s l r c d z chi = (x : ℕ) → x < l .size → Describes s l r c d z x (λ y. y < r .size) (chi x)
+Described s l r c d z chi = (x : ℕ) → Node l x → Describes s l r c d z x (Node r) (chi x)
 
 -- Some expressions describe every node of l.
 abbrev pub Describable : Sides → Graph → Graph → ℕ → ℕ → Relation → Type 0

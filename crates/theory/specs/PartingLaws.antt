@@ -13,7 +13,7 @@ use mathlib.Core.Path.{_≡_, refl, ap}
 use Prim.Native.Nat.{ℕ, suc, _<_, _≤_}
 use native.Mathlib.Omega.{arith}
 use lib.ListN.{length}
-use Rattle.theory.specs.Graph.{Graph, WellFormed, linked}
+use Rattle.theory.specs.Graph.{Graph, Node, WellFormed, linked}
 use Rattle.theory.specs.Expression.{NodeExpr, neg, PositivePath, Positive}
 use Rattle.theory.specs.Meaning.{reach, holds}
 use Rattle.theory.specs.Bound.{len, WithinPath, Within, testDepth, depth}
@@ -22,18 +22,18 @@ use Rattle.theory.specs.Bisimulation.{Relation, Sides, oneSided, twoSide
 use Rattle.theory.specs.Rounds.{follow, met}
 use Rattle.theory.specs.Parting.{Tells, Parts, Describes, Described, pathExpr, Reason, byLink, byPaths, Fails, asked}
 use Rattle.theory.specs.TestLaws.{facts, test-fails}
-use Rattle.theory.specs.WalkLaws.{linked-inside}
+use Rattle.theory.specs.WalkLaws.{linked-inside, linked-node}
 use Rattle.theory.specs.ClauseLaws.{apart}
 
-module _ {s : Sides} {l r : Graph} {c d : ℕ} {z : Relation} {chi : ℕ → NodeExpr} (w : WellFormed l) (f : Described s l r c d z chi) where
+module _ {s : Sides} {l r : Graph} {c d : ℕ} {z : Relation} {chi : ℕ → NodeExpr} (w : WellFormed l) (v : WellFormed r) (f : Described s l r c d z chi) where
   path-len : (p : Path) → len (pathExpr chi p) ≡ length p
   unfolding pathExpr len
   path-len [] = refl
   path-len (h ∷ p) = omega (arith, path-len p)
 
   -- what describes the node that a hop of a path leads to
-  reached : (x : ℕ) (h : Hop) → linked l x (h .label) (h .to) ≡ true → Describes s l r c d z (h .to) (λ y. y < r .size) (chi (h .to))
-  reached x h e = f (h .to) (linked-inside w x (h .label) (h .to) e)
+  reached : (x : ℕ) (h : Hop) → linked l x (h .label) (h .to) ≡ true → Describes s l r c d z (h .to) (Node r) (chi (h .to))
+  reached x h e = f (h .to) (linked-node w x (h .label) (h .to) e)
 
   path-within : (p : Path) (x : ℕ) → Walk l x p → WithinPath c (pathExpr chi p)
   unfolding pathExpr Within Walk
@@ -50,7 +50,7 @@ module _ {s : Sides} {l r : Graph} {c d : ℕ} {z : Relation} {chi : ℕ → Nod
   path-tests [] x k = omega arith
   path-tests (h ∷ p) x (e, k) = omega (arith, reached x h e .shallow, path-tests p (h .to) k)
 
-  -- a path takes its own expression, and ends at a node
+  -- a path takes its own expression, and ends below the size
   path-own : (p : Path) (x : ℕ) → x < l .size → Walk l x p → (end x p < l .size) × (reach l (pathExpr chi p) x (end x p) ≡ true)
   unfolding pathExpr reach end Walk
   path-own [] x o k = (o, simp facts refl)
@@ -64,9 +64,9 @@ module _ {s : Sides} {l r : Graph} {c d : ℕ} {z : Relation} {chi : ℕ → Nod
   unfolding pathExpr reach follow Walk
   path-only [] x b y k h = h
   path-only (h ∷ p) x b y (e, k) t =
-      let (m, o, (u, (m′, o′, ((i, t), v)))) = simp facts at t in
-      let j = reached x h e .only m o t in
-      simp facts (m, o, ((u, j), path-only p (h .to) m y k (rw (← i) at v)))
+      let (m, o, (u, (m′, o′, ((i, t), t′)))) = simp facts at t in
+      let j = reached x h e .only m (linked-node v b (h .label) m u) t in
+      simp facts (m, o, ((u, j), path-only p (h .to) m y k (rw (← i) at t′)))
 
   -- the expression that a reason gives distinguishes a from b, one deeper than what describes the nodes
   pub parting : (why : Reason) (a b : ℕ) → a < l .size → Fails l r c z a b why → Parts s l r c (suc d) a b (asked chi why)
@@ -83,7 +83,7 @@ module _ {s : Sides} {l r : Graph} {c d : ℕ} {z : Relation} {chi : ℕ → Nod
           left = simp facts (y, i, (y, i, (e, (y, i, ((refl, k .own), refl)))));
           right = test-fails _ _ (λ h.
               let (x, o, (m, o′, (u, (m′, o″, ((j, t), j′))))) = simp facts at h in
-              simp facts (m, o′, (u, k .only m o′ t))) (g .missing);
+              simp facts (m, o′, (u, k .only m (linked-node v b _ m u) t))) (g .missing);
         };
         shallow = omega arith;
       }
@@ -96,8 +96,8 @@ module _ {s : Sides} {l r : Graph} {c d : ℕ} {z : Relation} {chi : ℕ → Nod
           spoken = λ e. (path-spoken p a (g .walk) e, path-spoken q a (g .walk′) e);
           left = simp facts (end a p, i, (u, (end a q, i′, (u′, g .ends))));
           right = test-fails _ _ (λ h.
-              let (x, k, (v, (y, k′, (v′, j)))) = simp facts at h in
-              simp facts (x, k, (path-only p a b x (g .walk) v, (y, k′, (path-only q a b y (g .walk′) v′, j))))) (g .missing);
+              let (x, k, (t, (y, k′, (t′, j)))) = simp facts at h in
+              simp facts (x, k, (path-only p a b x (g .walk) t, (y, k′, (path-only q a b y (g .walk′) t′, j))))) (g .missing);
         };
         shallow = omega (arith, path-tests p a (g .walk), path-tests q a (g .walk′));
       }

@@ -1,4 +1,4 @@
--- The greatest, computed: start from all pairs, and keep in each round those whose clauses hold under the relation before.
+-- The greatest, computed: start from all pairs of nodes, and keep in each round those whose clauses hold under the relation before.
 use mathlib.Core.Bool.{Bool, true, false, not, _&&_, _||_}
 use mathlib.Core.List.{List, [], _∷_}
 use Prim.Native.Nat.{ℕ, zero, suc, _*_}
@@ -37,7 +37,7 @@ unfoldable pub zags : Sides → Graph → Graph → ℕ → Relation → ℕ →
 zags oneSided l r c z a b = true
 zags twoSided l r c z a b = zigs r l c (flip z) b a
 
--- A relation as a table: a row for each left node, a place in it for each right node.
+-- A relation as a table: a row for each number below the left size, a place in it for each below the right one.
 abbrev pub Table : Type 0
 Table = List (List Bool)
 
@@ -45,7 +45,7 @@ Table = List (List Bool)
 abbrev pub related : Table → Relation
 related t a b = getD (getD t a []) b false
 
--- The table of a relation between n and m nodes.
+-- The table of a relation between the numbers below n and those below m.
 unfoldable pub table : ℕ → ℕ → Relation → Table
 table n m z = list n (λ a. list m (λ b. z a b))
 
@@ -57,14 +57,14 @@ round s l r c t =
 
 -- The table after k rounds.
 unfoldable pub rounds : Sides → Graph → Graph → ℕ → ℕ → Table
-rounds s l r c zero = table (l .size) (r .size) (λ a b. true)
+rounds s l r c zero = table (l .size) (r .size) (λ a b. l .shown a && r .shown b)
 rounds s l r c (suc k) = round s l r c (rounds s l r c k)
 
 -- The relation after k rounds.
 abbrev pub after : Sides → Graph → Graph → ℕ → ℕ → Relation
 after s l r c k = related (rounds s l r c k)
 
--- The table after as many rounds as there are pairs: no round changes it further.
+-- The table after as many rounds as it has places: no round changes it further.
 unfoldable pub settled : Sides → Graph → Graph → ℕ → Table
 settled s l r c = rounds s l r c (l .size * r .size)
 

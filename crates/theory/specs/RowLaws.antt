@@ -6,8 +6,8 @@
 -- One-sided relations do not go back from b to a′, and their rows need not be equal.
 use mathlib.Core.Bool.{So}
 use mathlib.Core.Path.{_≡_, sym, _∙_}
-use Prim.Native.Nat.{ℕ, _<_}
-use Rattle.theory.specs.Graph.{Graph, WellFormed}
+use Prim.Native.Nat.{ℕ}
+use Rattle.theory.specs.Graph.{Graph, Node, WellFormed}
 use Rattle.theory.specs.Expression.{NodeExpr}
 use Rattle.theory.specs.Meaning.{holds}
 use Rattle.theory.specs.Bisimulation.{twoSided}
@@ -27,6 +27,6 @@ module _ {l r : Graph} (c : ℕ) (wl : WellFormed l) (wr : WellFormed r) (k : �
       let t = h a (after-inside twoSided c wl wr k a b e .0) in
       t .only b′ (after-inside twoSided c wl wr k a′ b′ g .1) (sym (agree (chi a) t a′ b′ g) ∙ agree (chi a) t a′ b f ∙ sym (agree (chi a) t a b e) ∙ t .own)
     where
-      agree : (q : NodeExpr) → Describes twoSided l r c k (after twoSided l r c k) a (λ y. y < r .size) q → (x y : ℕ) → So (after twoSided l r c k x y)
+      agree : (q : NodeExpr) → Describes twoSided l r c k (after twoSided l r c k) a (Node r) q → (x y : ℕ) → So (after twoSided l r c k x y)
           → holds l q x ≡ holds r q y
       agree q t x y i = agrees q (rounds-family twoSided c wl wr) (t .within) k x y (t .shallow) i

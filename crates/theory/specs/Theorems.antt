@@ -9,7 +9,7 @@ use mathlib.Core.Logic.{_↔_}
 use mathlib.Core.Path.{_≡_, refl, sym, ap, _∙_}
 use Prim.Native.Nat.{ℕ, _*_, _<_, _≤_}
 use native.Mathlib.Omega.{arith}
-use Rattle.theory.specs.Graph.{Graph, WellFormed}
+use Rattle.theory.specs.Graph.{Graph, Node, WellFormed}
 use Rattle.theory.specs.Expression.{NodeExpr, neg}
 use Rattle.theory.specs.Meaning.{holds}
 use Rattle.theory.specs.Bound.{Within, depth}
@@ -37,17 +37,17 @@ module _ {l r : Graph} (c : ℕ) (wl : WellFormed l) (wr : WellFormed r) where
     back = record { left = λ a b e. absurd e; right = λ a b e. absurd e; zig = λ a b e. absurd e };
   }
 
-  module _ (a b : ℕ) (left : a < l .size) (right : b < r .size) where
+  module _ (a b : ℕ) (left : Node l a) (right : Node r b) where
     -- Demand 3: a pair is matched exactly when every node expression within the bound, of any size, has one truth at both nodes.
     pub matched-agrees : (matched l r c a b ≡ true) ↔ ((q : NodeExpr) → Within c q → holds l q a ≡ holds r q b)
     matched-agrees = agree-iff c wl wr a b left right
 
-module _ (s : Sides) {l r : Graph} (c : ℕ) (wl : WellFormed l) (wr : WellFormed r) (a b : ℕ) (left : a < l .size) (right : b < r .size) where
+module _ (s : Sides) {l r : Graph} (c : ℕ) (wl : WellFormed l) (wr : WellFormed r) (a b : ℕ) (left : Node l a) (right : Node r b) where
   -- A parted pair has a node expression within the bound (one-sided, without "not") that is true left and false right, and so a smallest depth of those.
   pub parted-least : related (settled s l r c) a b ≡ false → (d : ℕ) × LeastDepth s l r c a b d
   parted-least f = let (d, _, least) = dropped s c wl wr a b left right f in (d, least)
 
-  -- Where there is such an expression, there is one no deeper than left nodes × right nodes: the pair is none of the greatest, so that one of the first n × m
+  -- Where there is such an expression, there is one no deeper than n × m, the sizes multiplied: the pair is none of the greatest, so that one of the first n × m
   -- rounds drops it.
   pub told-shallow : (q : NodeExpr) → Tells s l r c a b q → (p : NodeExpr) × Tells s l r c a b p × (depth p ≤ l .size * r .size)
   told-shallow q t =
@@ -56,7 +56,7 @@ module _ (s : Sides) {l r : Graph} (c : ℕ) (wl : WellFormed l) (wr : WellForme
       let (p, u, e) = least .some in
       (p, u, omega arith)
 
-  -- So the smallest depth is at most left nodes × right nodes.
+  -- So the smallest depth is at most n × m.
   pub least-shallow : (d : ℕ) → LeastDepth s l r c a b d → d ≤ l .size * r .size
   least-shallow d h =
       let (q, t, _) = h .some in

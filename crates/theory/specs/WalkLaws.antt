@@ -9,7 +9,7 @@ use native.Mathlib.Omega.{arith}
 use lib.Dec.{eqb}
 use lib.ListN.{length}
 use Rattle.theory.specs.TestLaws.{never, eqb-iff, and-iff, or-iff, sum-iff, cons-iff, append-iff}
-use Rattle.theory.specs.Graph.{Graph, Link, link, WellFormed, Inside, has, linked}
+use Rattle.theory.specs.Graph.{Graph, Node, Link, link, dataGraph, WellFormed, Inside, has, linked}
 use Rattle.theory.specs.Path.{Hop, hop, Path, Walk, end, out, onward, paths}
 
 link-iff : (k : Link) (x a y : ℕ) → So (eqb (k .from) x && (eqb (k .label) a && eqb (k .to) y)) ↔ (link x a y ≡ k)
@@ -22,7 +22,7 @@ has-iff [] x a y = (never, λ m. absurd (List·Memᴰ·not-nil m))
 has-iff (k ∷ ks) x a y = simp (or-iff, sum-iff, link-iff, has-iff ks, cons-iff) Iff·rfl
 
 -- a link of a list that stays below n does
-has-inside : (n : ℕ) (ks : List Link) (x a y : ℕ) → Inside n ks → So (has ks x a y) → (x < n) × (y < n)
+pub has-inside : (n : ℕ) (ks : List Link) (x a y : ℕ) → Inside n ks → So (has ks x a y) → (x < n) × (y < n)
 unfolding Inside has
 has-inside n [] x a y w e = never e
 has-inside n (k ∷ ks) x a y (i, j, w) e =
@@ -30,14 +30,28 @@ has-inside n (k ∷ ks) x a y (i, j, w) e =
     let p : x ≡ k .from = cc in let r : y ≡ k .to = cc in (rw p i, rw r j))
     (has-inside n ks x a y w) (or-iff _ _ .0 e)
 
+-- the data graph of 000 is as it asks, if its links stay below n
+pub data-formed : (n : ℕ) (ks : List Link) (value : ℕ → ℕ) → Inside n ks → WellFormed (dataGraph n ks value)
+data-formed n ks value h = record { inside = h; seen = λ x a y e. (refl, refl) }
+
 module _ {g : Graph} (w : WellFormed g) (x a y : ℕ) (e : So (linked g x a y)) where
   pub linked-inside : y < g .size
   linked-inside = has-inside (g .size) (g .links) x a y (w .inside) e .1
 
+  -- a link leads to a node
+  pub linked-node : Node g y
+  linked-node = record { below = linked-inside; seen = w .seen x a y e .1 }
+
+-- a path from a number below the size ends below it, and one from a node at a node
 pub end-inside : {g : Graph} → WellFormed g → (x : ℕ) (p : Path) → x < g .size → Walk g x p → end x p < g .size
 unfolding Walk end
 end-inside w x [] h k = h
 end-inside w x (s ∷ p) h k = end-inside w (s .to) p (linked-inside w x (s .label) (s .to) (k .0)) (k .1)
+
+pub walk-node : {g : Graph} → WellFormed g → (x : ℕ) (p : Path) → Node g x → Walk g x p → Node g (end x p)
+unfolding Walk end
+walk-node w x [] h k = h
+walk-node w x (s ∷ p) h k = walk-node w (s .to) p (linked-node w x (s .label) (s .to) (k .0)) (k .1)
 
 -- the hops that are listed are the links out of x
 pub out-iff : (ks : List Link) (x : ℕ) (h : Hop) → List·Memᴰ h (out ks x) ↔ So (has ks x (h .label) (h .to))

@@ -1,3 +1,5 @@
 pub mod Truth
 pub mod Entered
+pub mod SeenCells
 pub mod OutcomeLaws
+pub mod SecrecyLaws

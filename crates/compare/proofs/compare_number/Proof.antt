@@ -1,6 +1,6 @@
 -- `compare::compare_number` meets its contract.
-use borrow.Author.Needs.{needs}
 use Rattle.compare.proofs.Exits.{compare-number, sheet-bits, count-bits}
+use borrow.Author.Needs.{needs}
 use Rattle.compare.proofs.compare_number.Statement.{statement}
 use Rattle.compare.proofs.compare_number.Tie as tie
 
@@ -46,6 +46,18 @@ enum-told-4 c = search needs
 code-requires-7 : tie.Need-code-requires-7
 code-requires-7 c κs = search needs
 
+enum-told-5 : tie.Need-enum-told-5
+enum-told-5 c = search needs
+
+code-requires-8 : tie.Need-code-requires-8
+code-requires-8 c κs = search needs
+
+enum-told-6 : tie.Need-enum-told-6
+enum-told-6 c = search needs
+
+code-requires-9 : tie.Need-code-requires-9
+code-requires-9 c κs = search needs
+
 returns : tie.Need-returns
 returns c = search compare-number
 
@@ -67,6 +79,12 @@ returns-6 c = search compare-number
 returns-7 : tie.Need-returns-7
 returns-7 c = search compare-number
 
+returns-8 : tie.Need-returns-8
+returns-8 c = search compare-number
+
+returns-9 : tie.Need-returns-9
+returns-9 c = search compare-number
+
 pub compare-number-spec : {M : Type 1} → statement M
 compare-number-spec =
     tie.close
@@ -85,10 +103,16 @@ compare-number-spec =
     code-requires-6
     enum-told-4
     code-requires-7
+    enum-told-5
+    code-requires-8
+    enum-told-6
+    code-requires-9
     returns
     returns-2
     returns-3
     returns-4
     returns-5
     returns-6
-    returns-7)
+    returns-7
+    returns-8
+    returns-9)

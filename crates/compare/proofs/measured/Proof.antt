@@ -1,7 +1,7 @@
 -- `compare::measured` meets its contract.
-use borrow.Author.Needs.{needs}
 use Rattle.book.specs.AcceptedLaws.{book-long}
 use Rattle.compare.proofs.Exits.{pairs-few, pairs-fit, map-length, few-room, few-scratch, all-lent, scratch-lent}
+use borrow.Author.Needs.{needs}
 use Rattle.compare.proofs.measured.Statement.{statement}
 use Rattle.compare.proofs.measured.Tie as tie
 
@@ -37,7 +37,7 @@ served-requires c κs =
     let given = c .before .before .before .before .before .before .before .before .before .before .before .before .before .before .before .pre in
     let n = c .before .before .before .before .before .before .before .before .before .cells-of .ensures .0 in
     let m = c .before .before .before .before .before .before .before .before .cells-of2 .ensures .0 in
-    (all-lent _ _ _ _ n m (given .0) (given .1) _ _ _ _ _ (c .before .before .before .before .before .before .sheet-version .ensures) (c .before .before .before .before .before .room-needed .ensures) (given .2) (c .before .before .before .before .before .before .before .if1 .left) (c .before .before .before .before .if2 .left), scratch-lent _ _ _ _ n m _ (c .before .before .before .if3 .left))
+    (all-lent _ _ _ _ n m (given .0) (given .1) _ _ (given .2) (given .3) _ _ _ _ (c .before .before .before .before .before .before .sheet-version .ensures) (c .before .before .before .before .before .room-needed .ensures) (given .4) (c .before .before .before .before .before .before .before .if1 .left) (c .before .before .before .before .if2 .left), scratch-lent _ _ _ _ n m _ (c .before .before .before .if3 .left))
 
 same-length : tie.Need-same-length
 same-length c = search needs

@@ -1,6 +1,6 @@
 -- `compare::served` meets its contract.
+use Rattle.compare.proofs.Exits.{sheet-narrow, count-narrow, all-served}
 use borrow.Author.Needs.{needs}
-use Rattle.compare.proofs.Exits.{sheet-narrow, count-narrow, header-room, all-served}
 use Rattle.compare.proofs.served.Statement.{statement}
 use Rattle.compare.proofs.served.Tie as tie
 
@@ -11,7 +11,7 @@ cast-put-header : tie.Need-cast-put-header
 cast-put-header c = record { fits = search sheet-narrow }
 
 put-header-requires : tie.Need-put-header-requires
-put-header-requires c κs = search header-room
+put-header-requires c κs = search needs
 
 clear-bytes-requires : tie.Need-clear-bytes-requires
 clear-bytes-requires c κs = search needs
@@ -19,11 +19,11 @@ clear-bytes-requires c κs = search needs
 zeros-requires : tie.Need-zeros-requires
 zeros-requires c κs = search needs
 
-cast-t18 : tie.Need-cast-t18
-cast-t18 c = record { fits = search sheet-narrow }
+cast-t19 : tie.Need-cast-t19
+cast-t19 c = record { fits = search sheet-narrow }
 
-cast-t23 : tie.Need-cast-t23
-cast-t23 c = record { fits = search count-narrow }
+cast-t24 : tie.Need-cast-t24
+cast-t24 c = record { fits = search count-narrow }
 
 same-length : tie.Need-same-length
 same-length c = search needs
@@ -46,8 +46,8 @@ served-spec =
     put-header-requires
     clear-bytes-requires
     zeros-requires
-    cast-t18
-    cast-t23
+    cast-t19
+    cast-t24
     same-length
     same-length-2
     same-length-3

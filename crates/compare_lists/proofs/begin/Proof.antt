@@ -1,11 +1,11 @@
 -- `compare_lists::begin` meets its contract.
-use borrow.Author.Needs.{needs}
 use Rattle.compare_lists.proofs.Exits.{started}
+use borrow.Author.Needs.{needs}
 use Rattle.compare_lists.proofs.begin.Statement.{statement}
 use Rattle.compare_lists.proofs.begin.Tie as tie
 
-clear-map-requires : tie.Need-clear-map-requires
-clear-map-requires c κs = search needs
+start-map-requires : tie.Need-start-map-requires
+start-map-requires c κs = search needs
 
 put-true-requires : tie.Need-put-true-requires
 put-true-requires c κs = search needs
@@ -21,4 +21,4 @@ returns c = search started
 
 pub begin-spec : {M : Type 1} → statement M
 begin-spec =
-    tie.close (tie.spec clear-map-requires put-true-requires same-length same-length-2 returns)
+    tie.close (tie.spec start-map-requires put-true-requires same-length same-length-2 returns)

@@ -1,15 +1,11 @@
 -- `compare_lists::read` meets its contract.
-use borrow.Author.Needs.{needs}
-use Rattle.book.specs.AcceptedLaws.{book-long}
 use Rattle.compare_lists.proofs.Exits.{read-whole}
+use borrow.Author.Needs.{needs}
 use Rattle.compare_lists.proofs.read.Statement.{statement}
 use Rattle.compare_lists.proofs.read.Tie as tie
 
 load-requires : tie.Need-load-requires
 load-requires c κs = search needs
-
-links-of-requires : tie.Need-links-of-requires
-links-of-requires c κs = search book-long
 
 starts-requires : tie.Need-starts-requires
 starts-requires c κs = search needs
@@ -31,7 +27,6 @@ read-spec =
     tie.close
     (tie.spec
     load-requires
-    links-of-requires
     starts-requires
     passing-requires
     passing-requires-2

@@ -10,17 +10,17 @@ use Rattle.edges.proofs.passing.Statement.{statement}
 use Rattle.edges.proofs.passing.Tie as tie
 
 abbrev Inv-loop : tie.InvT-loop
-Inv-loop book comparison n rows₀ x₀ rows x = (rows ≡ passingRows book (comparisonOf comparison) x) × (x ≤ n) × (n ≤ 64)
+Inv-loop book hidden comparison n rows₀ x₀ rows x = (rows ≡ passingRows hidden book (comparisonOf comparison) x) × (x ≤ n) × (n ≤ 64)
 
 abbrev μ-loop : tie.MeasureT-loop
-μ-loop book comparison n rows₀ x₀ rows x = n - x
+μ-loop book hidden comparison n rows₀ x₀ rows x = n - x
 
 cells-of-requires : tie.Need-cells-of-requires Inv-loop μ-loop
 cells-of-requires c κs = search book-long
 
 loop-holds : tie.Need-loop-holds Inv-loop μ-loop
 unfolding emptyRows
-loop-holds c = (rows-start _ _, omega arith, search cells-few)
+loop-holds c = (rows-start _ _ _, omega arith, search cells-few)
 
 passing-with-requires : tie.Need-passing-with-requires Inv-loop μ-loop
 passing-with-requires c κs = (search needs, omega arith)

@@ -10,22 +10,22 @@ use Rattle.edges.proofs.passing_with.Statement.{statement}
 use Rattle.edges.proofs.passing_with.Tie as tie
 
 abbrev Inv-loop : tie.InvT-loop
-Inv-loop book comparison x n here out₀ y₀ out y = (out ≡ passingTo book (comparisonOf comparison) x y) × (y ≤ n) × (n ≤ 64)
+Inv-loop book hidden comparison x n here out₀ y₀ out y = (out ≡ passingTo hidden book (comparisonOf comparison) x y) × (y ≤ n) × (n ≤ 64)
 
 abbrev μ-loop : tie.MeasureT-loop
-μ-loop book comparison x n here out₀ y₀ out y = n - y
+μ-loop book hidden comparison x n here out₀ y₀ out y = n - y
 
 cells-of-requires : tie.Need-cells-of-requires Inv-loop μ-loop
 cells-of-requires c κs = search book-long
 
-recording-of-requires : tie.Need-recording-of-requires Inv-loop μ-loop
-recording-of-requires c κs = search needs
+recording-seen-requires : tie.Need-recording-seen-requires Inv-loop μ-loop
+recording-seen-requires c κs = search needs
 
 loop-holds : tie.Need-loop-holds Inv-loop μ-loop
 loop-holds c = (search word-none, omega arith, search cells-few)
 
-recording-of-requires-2 : tie.Need-recording-of-requires-2 Inv-loop μ-loop
-recording-of-requires-2 c κs = (search needs, omega arith)
+recording-seen-requires-2 : tie.Need-recording-seen-requires-2 Inv-loop μ-loop
+recording-seen-requires-2 c κs = (search needs, omega arith)
 
 passes-requires : tie.Need-passes-requires Inv-loop μ-loop
 passes-requires c κs = search needs
@@ -56,9 +56,9 @@ passing-with-spec =
     Inv-loop
     μ-loop
     cells-of-requires
-    recording-of-requires
+    recording-seen-requires
     loop-holds
-    recording-of-requires-2
+    recording-seen-requires-2
     passes-requires
     cast-with
     with-requires

@@ -4,16 +4,16 @@ use mathlib.Core.Path.{_≡_}
 use Prim.Native.Nat.{_≤_, _<_, _-_, _^_}
 use native.Mathlib.Omega.{arith}
 use borrow.Author.Needs.{needs}
-use Rattle.evaluate.specs.Evaluation.{comparisonWord}
+use Rattle.evaluate.specs.Evaluation.{comparisonTo}
 use Rattle.evaluate.proofs.Laws.{comparison-start, comparison-set, comparison-clear, comparison-end}
 use Rattle.evaluate.proofs.comparison_word.Statement.{statement}
 use Rattle.evaluate.proofs.comparison_word.Tie as tie
 
 abbrev Inv-loop : tie.InvT-loop
-Inv-loop n rows firsts seconds out₀ x₀ out x = (out ≡ comparisonWord x rows firsts seconds) × (x ≤ n) × (out < 2 ^ 64)
+Inv-loop every rows firsts seconds out₀ x₀ out x = (out ≡ comparisonTo x every rows firsts seconds) × (x ≤ 64) × (out < 2 ^ 64)
 
 abbrev μ-loop : tie.MeasureT-loop
-μ-loop n rows firsts seconds out₀ x₀ out x = n - x
+μ-loop every rows firsts seconds out₀ x₀ out x = 64 - x
 
 loop-holds : tie.Need-loop-holds Inv-loop μ-loop
 loop-holds c = (search comparison-start, omega arith, search needs)
@@ -21,20 +21,20 @@ loop-holds c = (search comparison-start, omega arith, search needs)
 cast-i : tie.Need-cast-i Inv-loop μ-loop
 cast-i c = search needs
 
-mul-any-passes : tie.Need-mul-any-passes Inv-loop μ-loop
-mul-any-passes c = search needs
+mul-passes-at : tie.Need-mul-passes-at Inv-loop μ-loop
+mul-passes-at c = search needs
 
-element-copy-out-any-passes : tie.Need-element-copy-out-any-passes Inv-loop μ-loop
-element-copy-out-any-passes c = search needs
+element-copy-out-passes-at : tie.Need-element-copy-out-passes-at Inv-loop μ-loop
+element-copy-out-passes-at c = search needs
 
-mul-any-passes-2 : tie.Need-mul-any-passes-2 Inv-loop μ-loop
-mul-any-passes-2 c = search needs
+mul-passes-at-2 : tie.Need-mul-passes-at-2 Inv-loop μ-loop
+mul-passes-at-2 c = search needs
 
-element-copy-out-any-passes-2 : tie.Need-element-copy-out-any-passes-2 Inv-loop μ-loop
-element-copy-out-any-passes-2 c = search needs
+element-copy-out-passes-at-2 : tie.Need-element-copy-out-passes-at-2 Inv-loop μ-loop
+element-copy-out-passes-at-2 c = search needs
 
-any-passes-requires : tie.Need-any-passes-requires Inv-loop μ-loop
-any-passes-requires c κs = search needs
+passes-at-requires : tie.Need-passes-at-requires Inv-loop μ-loop
+passes-at-requires c κs = search needs
 
 with-requires : tie.Need-with-requires Inv-loop μ-loop
 with-requires c κs = search needs
@@ -59,11 +59,11 @@ comparison-word-spec =
     μ-loop
     loop-holds
     cast-i
-    mul-any-passes
-    element-copy-out-any-passes
-    mul-any-passes-2
-    element-copy-out-any-passes-2
-    any-passes-requires
+    mul-passes-at
+    element-copy-out-passes-at
+    mul-passes-at-2
+    element-copy-out-passes-at-2
+    passes-at-requires
     with-requires
     add-x
     loop-less

@@ -8,9 +8,6 @@ use Rattle.evaluate.proofs.entry_word.Tie as tie
 kind-requires : tie.Need-kind-requires
 kind-requires c κs = search needs
 
-full-requires : tie.Need-full-requires
-full-requires c κs = search needs
-
 plain-word-requires : tie.Need-plain-word-requires
 plain-word-requires c κs = search needs
 
@@ -19,9 +16,6 @@ returns c = search entry-plain
 
 first-way-requires : tie.Need-first-way-requires
 first-way-requires c κs = search needs
-
-full-requires-2 : tie.Need-full-requires-2
-full-requires-2 c κs = search needs
 
 way-word-requires : tie.Need-way-word-requires
 way-word-requires c κs = (search needs, search first-known)
@@ -46,11 +40,9 @@ entry-word-spec =
     tie.close
     (tie.spec
     kind-requires
-    full-requires
     plain-word-requires
     returns
     first-way-requires
-    full-requires-2
     way-word-requires
     returns-2
     pair-word-requires

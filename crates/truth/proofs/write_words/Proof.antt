@@ -1,6 +1,6 @@
 -- `truth::write_words` meets its contract. The lists and rows are the tables of the book.
 use borrow.Author.Needs.{needs}
-use Rattle.truth.proofs.Operations.{book-long, cells-few, loaded-held, words-written}
+use Rattle.truth.proofs.Operations.{loaded-held, words-written}
 use Rattle.truth.proofs.write_words.Statement.{statement}
 use Rattle.truth.proofs.write_words.Tie as tie
 
@@ -13,17 +13,11 @@ passing-requires c κs = search needs
 passing-requires-2 : tie.Need-passing-requires-2
 passing-requires-2 c κs = search needs
 
-cells-of-requires : tie.Need-cells-of-requires
-cells-of-requires c κs = search book-long
-
-cast-n : tie.Need-cast-n
-cast-n c = search needs
-
-links-of-requires : tie.Need-links-of-requires
-links-of-requires c κs = search book-long
+seen-requires : tie.Need-seen-requires
+seen-requires c κs = search needs
 
 evaluate-requires : tie.Need-evaluate-requires
-evaluate-requires c κs = (search cells-few, search loaded-held, search needs)
+evaluate-requires c κs = (search loaded-held, search needs)
 
 same-length : tie.Need-same-length
 same-length c = search needs
@@ -38,9 +32,7 @@ write-words-spec =
     load-requires
     passing-requires
     passing-requires-2
-    cells-of-requires
-    cast-n
-    links-of-requires
+    seen-requires
     evaluate-requires
     same-length
     returns)
