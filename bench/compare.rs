@@ -10,7 +10,7 @@ mod plain_compare;
 mod support;
 
 use calls::{timed, Compare, Lists};
-use families::{changed, hard, ordinary, Family};
+use families::{changed, drawn, hard, ordinary, Family};
 use std::env;
 use std::time::Duration;
 use support::library;
@@ -19,7 +19,7 @@ use support::sides::{Sides, FORMS};
 use support::versions::VERSIONS;
 
 /// The library's tables have so many places, and so have the plain version's.
-const PLACES: usize = 128;
+const PLACES: usize = 64;
 
 /// The three are called by turns, so long in all, but each at least and at most so often.
 const MEASURED: Duration = Duration::from_millis(450);
@@ -111,6 +111,7 @@ fn tables(sides: Sides) {
     table(sides, "ordinary books", &ordinary(), ORDINARY_RATIO);
     table(sides, "hard books", &hard(), RATIO);
     table(sides, "changed books", &changed(), RATIO);
+    table(sides, "drawn books", &drawn(), RATIO);
 }
 
 /// Prints the rows of these families, and what was seen.

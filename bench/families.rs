@@ -217,24 +217,37 @@ const CHANGED: [(usize, usize, usize, u64); 14] = [
     (39, 8, 503, 200471),
 ];
 
+/// A random book of one recording, and a renumbered copy with one change.
+fn one_change(cells: usize, labels: usize, links: usize, seed: u64) -> Family {
+    let random = &mut Random::new(seed);
+    let book = random_book(random, cells, links, labels, 1);
+    let copy = renumbered(random, &book);
+    let right = damaged(random, &copy);
+    let what = match right.recordings == copy.recordings {
+        true => "link",
+        false => "recording",
+    };
+    Family {
+        name: format!("one {what} changed, {labels} labels, {links} links, seed {seed}"),
+        left: book,
+        right,
+    }
+}
+
 /// Books of which the ways of 3 and 4 links take many tables, while one table of all lengths decides few pairs.
 pub fn changed() -> Vec<Family> {
-    let family = |(cells, labels, links, seed)| {
-        let random = &mut Random::new(seed);
-        let book = random_book(random, cells, links, labels, 1);
-        let copy = renumbered(random, &book);
-        let right = damaged(random, &copy);
-        let what = match right.recordings == copy.recordings {
-            true => "link",
-            false => "recording",
-        };
-        Family {
-            name: format!("one {what} changed, {labels} labels, {links} links, seed {seed}"),
-            left: book,
-            right,
-        }
-    };
+    let family = |(cells, labels, links, seed)| one_change(cells, labels, links, seed);
     CHANGED.into_iter().map(family).collect()
+}
+
+/// Such books as they come: 22 to 40 cells, 5 to 8 labels, 400 to 512 links.
+pub fn drawn() -> Vec<Family> {
+    let random = &mut Random::new(21);
+    let mut family = |seed| {
+        let (cells, labels) = (random.between(22, 40), random.between(5, 8));
+        one_change(cells, labels, random.between(400, 512), seed)
+    };
+    (0..40).map(&mut family).collect()
 }
 
 /// The name of a family with so many recordings.

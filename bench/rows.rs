@@ -10,7 +10,7 @@ mod families;
 mod support;
 
 use calls::{timed, Lists};
-use families::{changed, hard, ordinary, Family};
+use families::{changed, drawn, hard, ordinary, Family};
 use std::env;
 use std::hash::{DefaultHasher, Hash, Hasher};
 use std::io::stdin;
@@ -26,6 +26,7 @@ fn main() {
         ("ordinary", ordinary()),
         ("hard", hard()),
         ("changed", changed()),
+        ("drawn", drawn()),
     ];
     let families: Vec<(&str, Family)> = groups
         .into_iter()

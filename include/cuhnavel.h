@@ -81,6 +81,10 @@ uint64_t cuhnavel_check_book(const uint8_t *bytes, size_t len);
  */
 uint64_t cuhnavel_check_sheet(const uint8_t *bytes, size_t len);
 
+/* The bytes of stack that cuhnavel_compare and cuhnavel_compare_one_way take at most, whatever they are asked: 26,700 as measured with books of which the
+ * ways are many, and 29,400 if the deepest calls of all come together, rounded up to a multiple of 4,096. tests/stack runs them on just so much. */
+#define CUHNAVEL_COMPARE_STACK 32768
+
 /* Compare: which cells of two books do the same, and what parts the others. The books may be of different versions. With n the left
  * book's number of cells and m the right one's:
  *   map      n x m places. Place i x m + j becomes 0 where left cell i and right cell j are matched, that is where no question
@@ -107,6 +111,7 @@ uint64_t cuhnavel_check_sheet(const uint8_t *bytes, size_t len);
  *   21 map_len is not n x m
  *   22 room_len is below 10 + 44 x n x m, or below 10 + 52 x n x m if either book is of version 2
  *   23 scratch_len is below 16 x n x m
+ * It takes at most CUHNAVEL_COMPARE_STACK bytes of stack.
  */
 uint64_t cuhnavel_compare(const uint8_t *left, size_t left_len, const uint8_t *right, size_t right_len, size_t bound,
                           uint64_t left_hidden, uint64_t right_hidden, uint16_t *map, size_t map_len, uint8_t *room,
@@ -123,6 +128,7 @@ uint64_t cuhnavel_compare(const uint8_t *left, size_t left_len, const uint8_t *r
  * and all that is written and answered is the same whatever is hidden.
  * Accepted: first is the sheet's length in bytes, second the number of covered pairs.
  * Refused: as cuhnavel_compare.
+ * It takes at most CUHNAVEL_COMPARE_STACK bytes of stack.
  */
 uint64_t cuhnavel_compare_one_way(const uint8_t *left, size_t left_len, const uint8_t *right, size_t right_len, size_t bound,
                                   uint64_t left_hidden, uint64_t right_hidden, uint16_t *map, size_t map_len, uint8_t *room,

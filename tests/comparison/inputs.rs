@@ -48,6 +48,7 @@ pub fn all(tally: &mut Tally) {
     crowded(tally, random);
     large(tally, random);
     dense(tally, &mut Random::new(2)); // of some seeds one with many full tables
+    many_recordings(tally, &mut Random::new(3));
     many_values(tally, random);
 }
 
@@ -673,6 +674,21 @@ fn ask_dense(tally: &mut Tally, random: &mut Random, cells: usize, labels: usize
     }
     let other = split(random, &book, cells / 4, 20);
     ask(random, Sides::Two, &other);
+}
+
+/// Dense books with many recordings, and renumbered copies: the ways of 2 links have more classes than the tables of the library have places, and one tip a
+/// cell tells of a cell and its copy that they stay.
+fn many_recordings(tally: &mut Tally, random: &mut Random) {
+    for _ in 0..3 {
+        let book = loop {
+            let book = random_book(random, 20, 240, 6, 20);
+            if most_ways(&book, 3) <= DENSE_WAYS {
+                break book;
+            }
+        };
+        let other = renumbered(random, &book);
+        ask_whole(tally, random, &book, &other, 3, TENS, SOME_CLAIMS);
+    }
 }
 
 /// Ways to one cell with more sets of recordings than the tables of the library have places. Of the other book's 13 cells that differ in

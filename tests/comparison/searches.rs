@@ -2,7 +2,7 @@
 //! pairs of paths. They leave the same pairs unparted, and every comparison has the same number of steps in all.
 
 use crate::expected::Asked;
-use crate::plain_compare::{self, BY_CELLS, CLASHED, FULL, IDLE, QUIET, UNKNOWN};
+use crate::plain_compare::{self, BY_CELLS, CLASHED, FULL, IDLE, LARGE, QUIET, UNKNOWN};
 use crate::support::call::Call;
 use crate::support::hidden::shown_map;
 use crate::support::loops::{Dropped, Reason};
@@ -12,7 +12,7 @@ use std::collections::BTreeMap;
 use std::sync::atomic::{AtomicUsize, Ordering};
 
 /// How many places the tables of the library have.
-const PLACES: usize = 128;
+const PLACES: usize = 64;
 
 /// Tables of N places are tried where the cells times the pairs of ways are at most so many times N².
 const REACH: usize = 20_000;
@@ -27,11 +27,12 @@ pub struct Written<'a> {
     pub room: &'a [u8],
 }
 
-/// What the plain version counts: how many pairs were left out since none near them was parted; how often a part was full; for how many pairs one tip a cell
-/// told that they stay; and for how many others the table of what comparisons see told that no classes clash, or that some do, or was full.
-static COUNTS: [(&str, &AtomicUsize); 6] = [
+/// What the plain version counts: how many pairs were left out since none near them was parted; how often a part was full; for how many pairs some level was
+/// too large as it is, and one tip a cell told that they stay; and for how many others the levels told that no tips clash, or that some do, or did not fit.
+static COUNTS: [(&str, &AtomicUsize); 7] = [
     ("pairs left out", &IDLE),
     ("full parts", &FULL),
+    ("pairs too large", &LARGE),
     ("pairs told by cells", &BY_CELLS),
     ("quiet pairs", &QUIET),
     ("clashing pairs", &CLASHED),
@@ -148,7 +149,9 @@ impl Searches {
             for (place, (name, _)) in COUNTS.iter().enumerate() {
                 let (count, in_cases) = (counted.counts[place], counted.in_cases[place]);
                 println!("    {name:<20}{count:>9}{in_cases:>7}");
-                if count == 0 {
+                // where so few tips are all, hardly two of them clash with 3 links in all or more
+                let rare = *places <= 3 && *name == "clashing pairs";
+                if count == 0 && !rare {
                     println!("tables of {places} places had no {name}");
                     std::process::exit(1);
                 }

@@ -1,7 +1,7 @@
 //! Compare in plain Rust, by the library's method: the same rounds over the same pairs in the same order, without those near which the round before
-//! parted none, and those that a row before tells to stay where both sides count; the same search over classes of paths in tables, without covered tips, for whether there is a reason, and
-//! then link by link for the first. So map and sheet are the library's to the byte, with tables of whatever size. Hidden cells
-//! are cut from the books when these are read.
+//! parted none, and those that a row before tells to stay where both sides count; the same search over classes of paths, level by level in a table, without
+//! covered tips, for whether there is a reason, and then link by link for the first. So map and sheet are the library's to the byte, with tables of whatever
+//! size. Hidden cells are cut from the books when these are read.
 
 use crate::support::checks::check_book;
 use crate::support::hidden::{beyond_refusal, hides, Hidden, HIDDEN};
@@ -115,16 +115,20 @@ impl Graph {
         word
     }
 
-    /// The labels of the links, each once, and how many they are.
-    fn labels_of(&self) -> ([u16; 512], usize) {
-        let (mut list, mut count) = ([0; 512], 0);
-        for label in &self.labels[..self.starts[64] as usize] {
-            if !list[..count].iter().any(|known| known == label) {
-                list[count] = *label;
-                count += 1;
+    /// The smallest label from `least` on of the links out of the cells of the word; where there is none, the number of all labels.
+    fn next_label(&self, mut word: u64, least: usize) -> usize {
+        let mut out = EVERY_LABEL;
+        while word != 0 {
+            let x = word.trailing_zeros() as usize;
+            for &label in &self.labels[self.starts[x] as usize..self.starts[x + 1] as usize] {
+                let label = label as usize;
+                if least <= label && label < out {
+                    out = label;
+                }
             }
+            word &= word - 1;
         }
-        (list, count)
+        out
     }
 }
 
@@ -138,12 +142,16 @@ fn passing(rows: &[u64; 64], mut word: u64) -> u64 {
     out
 }
 
-/// Two paths of so many links in all, or of more, are looked for only where there may be some.
+/// Before two paths of so many links in all are looked for, all levels are filled.
 const LATE: usize = 3;
 
-/// How many classes there is room for in a table. One class and label give at most 64 tips.
-const ROOM: usize = 128;
-const TIPS: usize = 64;
+/// How many classes there is room for in a table. One class and label give at most so many tips.
+const ROOM: usize = 64;
+
+/// How many labels there can be: each is below. The place of a label and class e in the order in which a table is gone through is
+/// `ROOM` × the label + e, and the last is where all are.
+const EVERY_LABEL: usize = 1 << 16;
+const LAST_PLACE: usize = ROOM * EVERY_LABEL;
 
 /// How often a part was full, for the tests.
 pub static FULL: AtomicUsize = AtomicUsize::new(0);
@@ -151,12 +159,19 @@ pub static FULL: AtomicUsize = AtomicUsize::new(0);
 /// How often a pair was left out since the round before parted none near it, for the tests.
 pub static IDLE: AtomicUsize = AtomicUsize::new(0);
 
-/// How often one tip a cell told that a pair stays; and where it did not, how often no two classes of the table of what comparisons see
-/// clash, how often some do, and how often it was full, for the tests.
+/// For how many pairs there was no room for all levels with their tips as they are, and for how many of these one tip a cell told that they stay, for the
+/// tests.
+pub static LARGE: AtomicUsize = AtomicUsize::new(0);
 pub static BY_CELLS: AtomicUsize = AtomicUsize::new(0);
+
+/// For how many pairs no two tips of all levels clash, some do, or there was no room for all levels, for the tests.
 pub static QUIET: AtomicUsize = AtomicUsize::new(0);
 pub static CLASHED: AtomicUsize = AtomicUsize::new(0);
 pub static UNKNOWN: AtomicUsize = AtomicUsize::new(0);
+
+fn count(counter: &AtomicUsize) {
+    counter.fetch_add(1, Ordering::Relaxed);
+}
 
 /// The cells of a that are not in b.
 fn minus(a: u64, b: u64) -> u64 {
@@ -230,11 +245,11 @@ impl Table {
         cells
     }
 
-    /// The first class with the set w or no cells, or the number of classes.
-    fn place(&self, w: u64) -> usize {
-        let mut classes = self.classes();
+    /// The first class from `base` on with the set w or no cells, or the number of classes.
+    fn place(&self, base: usize, w: u64) -> usize {
+        let mut classes = self.classes().skip(base);
         let place = classes.position(|(left, right)| right == w || left == 0);
-        place.unwrap_or(self.count)
+        place.map_or(self.count, |place| base + place)
     }
 
     /// Puts the tips of the cells with the set w into class e, which has that set or no cells or is the next.
@@ -256,42 +271,29 @@ impl Table {
         self.lefts[y] = 1 << y;
     }
 
-    /// Takes the cells out of each class whose set is wider than w.
-    fn narrow(&mut self, cells: u64, w: u64) {
-        for (left, &right) in self.lefts[..self.count].iter_mut().zip(&self.rights) {
+    /// Takes the cells out of each class from `base` on whose set is wider than w.
+    fn narrow(&mut self, base: usize, cells: u64, w: u64) {
+        let rights = &self.rights[base..];
+        for (left, &right) in self.lefts[base..self.count].iter_mut().zip(rights) {
             if right != w && inside(w, right) {
                 *left = minus(*left, cells);
             }
         }
     }
 
-    /// Puts the tips of the cells with the set w in, but for those that the table covers; false where they need another class than
-    /// the `most` there are.
-    fn put(&mut self, cells: u64, w: u64, most: usize) -> bool {
+    /// Puts the tips of the cells with the set w in, from class `base` on, but for those that the table covers; false where they need another
+    /// class than the `most` there are.
+    fn put(&mut self, base: usize, cells: u64, w: u64, most: usize) -> bool {
         let new = self.uncovered(cells, w);
         if new == 0 {
             return true;
         }
-        let e = self.place(w);
+        let e = self.place(base, w);
         if e == self.count && e >= most {
             return false;
         }
         self.join(e, new, w);
-        self.narrow(new, w);
-        true
-    }
-
-    /// Puts the tips (y, s cut with row y) of these cells y in, those with the same row at once; false where there is no room for
-    /// all of them.
-    fn grow(&mut self, related: &[u64; 64], mut cells: u64, s: u64, most: usize) -> bool {
-        while cells != 0 {
-            let row = related[cells.trailing_zeros() as usize];
-            let mates = rowmates(related, cells, row);
-            if !self.put(mates, s & row, most) {
-                return false;
-            }
-            cells = minus(cells, mates);
-        }
+        self.narrow(base, new, w);
         true
     }
 }
@@ -342,9 +344,56 @@ impl Asked {
     }
 }
 
+/// Classes of a table, from the one on that is first.
+#[derive(Clone, Copy)]
+struct Classes<'a> {
+    table: &'a Table,
+    first: usize,
+    count: usize,
+}
+
+impl Table {
+    /// The first so many classes.
+    fn upto(&self, count: usize) -> Classes<'_> {
+        Classes {
+            table: self,
+            first: 0,
+            count,
+        }
+    }
+
+    fn whole(&self) -> Classes<'_> {
+        self.upto(self.count)
+    }
+}
+
+/// The tips of the paths from a pair, level by level in one table: the levels up to level k have `ends[k]` classes, for k up to `known`; those up to
+/// `exact` have their tips as they are, the others widened.
+struct Levels {
+    table: Table,
+    ends: [usize; LONGEST + 1],
+    known: usize,
+    exact: usize,
+}
+
+impl Levels {
+    /// Level 0: the tip (x, {y}).
+    fn new(x: usize, y: usize) -> Levels {
+        Levels {
+            table: Table::one(x, 1 << y),
+            ends: [1; LONGEST + 1],
+            known: 0,
+            exact: 0,
+        }
+    }
+
+    fn upto(&self, k: usize) -> Classes<'_> {
+        self.table.upto(self.ends[k])
+    }
+}
+
 /// The search for a reason to part a cell of one book and a cell of the other, from the one's side: row i of the relation has the
-/// cells related to cell i. A table takes `PLACES` classes, or what one class and label give; where there are more, the rest comes
-/// in a further table.
+/// cells related to cell i. A table takes `PLACES` classes, or, where it was empty, what one class and label give.
 struct Search<'a, const PLACES: usize> {
     one: &'a Graph,
     other: &'a Graph,
@@ -352,55 +401,66 @@ struct Search<'a, const PLACES: usize> {
 }
 
 impl<const PLACES: usize> Search<'_, PLACES> {
-    /// Puts the tips one link beyond the classes from `from` on, by one label, into `part`. The rows have the cells that the label
-    /// leads to, in the one book and in the other. Gives the class at which `part` was full.
-    fn fill_label(
-        &self,
-        rows: &[u64; 64],
-        other_rows: &[u64; 64],
-        table: &Table,
-        from: usize,
-        part: &mut Table,
-    ) -> Option<usize> {
-        for e in from..table.count {
-            let cells = passing(rows, table.lefts[e]);
-            let s = passing(other_rows, table.rights[e]);
-            let most = match part.count {
-                0 => PLACES.max(TIPS),
-                _ => PLACES,
-            };
-            if !part.grow(self.related, cells, s, most) {
-                return Some(e);
-            }
+    /// A set as it is, or all cells that have the recording of one of its cells: comparisons see no more of it.
+    fn seen_as(&self, wide: bool, w: u64) -> u64 {
+        match wide {
+            true => passing(&self.other.ends[0], w),
+            false => w,
         }
-        None
     }
 
-    /// Puts the tips one link beyond those of the table, from the place `at` on, into `part`, until it is full. Gives the place where
-    /// to go on: that of label number i and class e is `ROOM` × i + e.
-    fn fill(&self, labels: &[u16], table: &Table, at: usize, part: &mut Table) -> usize {
-        let here = union(&table.lefts[..table.count]);
-        let there = union(&table.rights[..table.count]);
+    /// Puts the tips (y, s cut with row y) of these cells y in, as they are or widened, those with the same row at once; false where there
+    /// is no room for all of them.
+    fn grow(&self, wide: bool, part: &mut Table, base: usize, mut cells: u64, s: u64) -> bool {
+        let most = match part.count {
+            0 => ROOM,
+            _ => PLACES,
+        };
+        while cells != 0 {
+            let row = self.related[cells.trailing_zeros() as usize];
+            let mates = rowmates(self.related, cells, row);
+            if !part.put(base, mates, self.seen_as(wide, s & row), most) {
+                return false;
+            }
+            cells = minus(cells, mates);
+        }
+        true
+    }
+
+    /// Puts the tips one link beyond the classes, as they are or widened, into a table from class `base` on, from the place `at` on, until there is no room. Gives
+    /// the place where to go on.
+    fn fill(&self, wide: bool, from: Classes, at: usize, part: &mut Table, base: usize) -> usize {
+        let (lefts, rights) = (&from.table.lefts, &from.table.rights);
+        let here = union(&lefts[from.first..from.count]);
+        let there = union(&rights[from.first..from.count]);
         let (mut rows, mut other_rows) = ([0; 64], [0; 64]);
-        let mut from = at % ROOM;
-        for (i, &label) in labels.iter().enumerate().skip(at / ROOM) {
-            self.one.put_rows(here, label, &mut rows);
-            self.other.put_rows(there, label, &mut other_rows);
-            if let Some(e) = self.fill_label(&rows, &other_rows, table, from, part) {
-                return ROOM * i + e;
-            }
-            from = 0;
+        let mut label = self.one.next_label(here, at / ROOM);
+        let mut first = from.first;
+        if label == at / ROOM {
+            first = first.max(at % ROOM);
         }
-        ROOM * labels.len()
+        while label < EVERY_LABEL {
+            self.one.put_rows(here, label as u16, &mut rows);
+            self.other.put_rows(there, label as u16, &mut other_rows);
+            for e in first..from.count {
+                let cells = passing(&rows, lefts[e]);
+                let s = passing(&other_rows, rights[e]);
+                if !self.grow(wide, part, base, cells, s) {
+                    return ROOM * label + e;
+                }
+            }
+            first = from.first;
+            label = self.one.next_label(here, label + 1);
+        }
+        LAST_PLACE
     }
 
-    /// Makes `part` the tips one link beyond those of the table, from the place `at` on, until it is full. Gives the place where to
-    /// go on.
-    fn next_part(&self, labels: &[u16], table: &Table, at: usize, part: &mut Table) -> usize {
+    /// Makes `part` the tips one link beyond the classes, from the place `at` on, until it is full. Gives the place where to go on.
+    fn next_part(&self, from: Classes, at: usize, part: &mut Table) -> usize {
         part.count = 0;
-        let next = self.fill(labels, table, at, part);
-        if next < ROOM * labels.len() {
-            FULL.fetch_add(1, Ordering::Relaxed);
+        let next = self.fill(false, from, at, part, 0);
+        if next < LAST_PLACE {
+            count(&FULL);
         }
         next
     }
@@ -420,13 +480,13 @@ impl<const PLACES: usize> Search<'_, PLACES> {
     }
 
     /// Whether two tips, one of each table, have no counterpart.
-    fn two_tips(&self, firsts: &Table, seconds: &Table) -> bool {
+    fn two_tips(&self, firsts: Classes, seconds: Classes) -> bool {
         for p in 0..firsts.count {
-            let (l, r) = (firsts.lefts[p], firsts.rights[p]);
+            let (l, r) = (firsts.table.lefts[p], firsts.table.rights[p]);
             let same = self.asked(0, l, r);
             let differ = self.asked(1, l, r);
             for q in 0..seconds.count {
-                let (m, s) = (seconds.lefts[q], seconds.rights[q]);
+                let (m, s) = (seconds.table.lefts[q], seconds.table.rights[q]);
                 if same.fails(m, s) || differ.fails(m, s) {
                     return true;
                 }
@@ -437,26 +497,18 @@ impl<const PLACES: usize> Search<'_, PLACES> {
 
     /// Whether there are two paths without counterpart: one `more` links beyond the tips of the table p, the other `rest` beyond those
     /// of q. The one is the first of the two, or the second where they are turned; then the other goes no further.
-    fn seek(
-        &self,
-        labels: &[u16],
-        p: &Table,
-        more: usize,
-        q: &Table,
-        rest: usize,
-        turned: bool,
-    ) -> bool {
+    fn seek(&self, p: Classes, more: usize, q: Classes, rest: usize, turned: bool) -> bool {
         if more == 0 {
             if turned {
                 return self.two_tips(q, p);
             }
-            return self.seek(labels, q, rest, p, 0, true);
+            return self.seek(q, rest, p, 0, true);
         }
         let mut part = Table::empty();
         let mut at = 0;
-        while at < ROOM * labels.len() {
-            at = self.next_part(labels, p, at, &mut part);
-            if self.seek(labels, &part, more - 1, q, rest, turned) {
+        while at < LAST_PLACE {
+            at = self.next_part(p, at, &mut part);
+            if self.seek(part.whole(), more - 1, q, rest, turned) {
                 return true;
             }
         }
@@ -464,15 +516,7 @@ impl<const PLACES: usize> Search<'_, PLACES> {
     }
 
     /// The first path of `len` links from the tip that has no counterpart with one of the others; there is one.
-    fn first_path(
-        &self,
-        labels: &[u16],
-        tip: Tail,
-        len: usize,
-        q: &Table,
-        rest: usize,
-        turned: bool,
-    ) -> Tail {
+    fn first_path(&self, tip: Tail, len: usize, q: Classes, rest: usize, turned: bool) -> Tail {
         let mut tail = tip;
         while tail.path.len < len {
             let more = len - tail.path.len - 1;
@@ -481,8 +525,8 @@ impl<const PLACES: usize> Search<'_, PLACES> {
             loop {
                 let cell = self.one.to[k as usize] as usize;
                 let word = self.step(tail.word, k);
-                if k + 1 >= end || self.seek(labels, &Table::one(cell, word), more, q, rest, turned)
-                {
+                let table = Table::one(cell, word);
+                if k + 1 >= end || self.seek(table.whole(), more, q, rest, turned) {
                     let mut path = tail.path;
                     path.links[path.len] = k;
                     path.len += 1;
@@ -495,23 +539,18 @@ impl<const PLACES: usize> Search<'_, PLACES> {
         tail
     }
 
-    /// The first two paths of i and j links from x without counterpart from y.
-    fn two_paths(&self, x: usize, y: usize, i: usize, j: usize) -> Option<Reason> {
-        let (labels, many) = self.one.labels_of();
-        let labels = &labels[..many];
-        let root = Table::one(x, 1 << y);
-        if !self.seek(labels, &root, i, &root, j, false) {
-            return None;
-        }
+    /// The first two paths of i and j links from x without counterpart from y; there are some. The second are told by the paths with `rest` links
+    /// further than the classes q.
+    fn first_pair(&self, x: usize, y: usize, i: usize, j: usize, q: Classes, rest: usize) -> Reason {
         let tip = Tail {
             cell: x,
             word: 1 << y,
             path: STAY,
         };
-        let p = self.first_path(labels, tip, i, &root, j, false);
-        let q = self.first_path(labels, tip, j, &Table::one(p.cell, p.word), 0, true);
+        let p = self.first_path(tip, i, q, rest, false);
+        let q = self.first_path(tip, j, Table::one(p.cell, p.word).whole(), 0, true);
         let same = self.asked(0, 1 << p.cell, p.word);
-        Some(Reason {
+        Reason {
             kind: if same.fails(1 << q.cell, q.word) {
                 SAME
             } else {
@@ -519,38 +558,71 @@ impl<const PLACES: usize> Search<'_, PLACES> {
             },
             first: p.path,
             second: q.path,
-        })
+        }
     }
 
-    /// Puts the tips of all paths of at most `more` links from those of the table p into `all`, each with the cells that have the recording of
-    /// one of its set: comparisons see no more of a set. False where there are more than `PLACES` classes of them.
-    fn gather(&self, labels: &[u16], p: &Table, more: usize, all: &mut Table) -> bool {
-        for (cells, set) in p.classes() {
-            if !all.put(cells, passing(&self.other.ends[0], set), PLACES) {
-                return false;
-            }
+    /// The first two paths of i and j links from x without counterpart from y, where no two of fewer links in all are: by the levels, as far as they
+    /// reach.
+    fn pair_at(&self, levels: &Levels, x: usize, y: usize, i: usize, j: usize) -> Option<Reason> {
+        if j <= levels.known {
+            let (p, q) = (levels.upto(i), levels.upto(j));
+            return self
+                .two_tips(p, q)
+                .then(|| self.first_pair(x, y, i, j, q, 0));
         }
-        if more == 0 {
-            return true;
+        let root = Table::one(x, 1 << y);
+        self.seek(root.whole(), i, root.whole(), j, false)
+            .then(|| self.first_pair(x, y, i, j, root.whole(), j))
+    }
+
+    /// Puts the tips of all paths of `more` links, at least one, from the classes into a table, from class `base` on; false where there is no room
+    /// for all.
+    fn gather(&self, wide: bool, from: Classes, more: usize, all: &mut Table, base: usize) -> bool {
+        if more == 1 {
+            return self.fill(wide, from, 0, all, base) == LAST_PLACE;
         }
         let mut part = Table::empty();
         let mut at = 0;
-        while at < ROOM * labels.len() {
-            at = self.next_part(labels, p, at, &mut part);
-            if !self.gather(labels, &part, more - 1, all) {
+        while at < LAST_PLACE {
+            at = self.next_part(from, at, &mut part);
+            if !self.gather(wide, part.whole(), more - 1, all, base) {
                 return false;
             }
         }
         true
     }
 
-    /// A table of what comparisons see of the tips of all paths of at most `bound` links from x with y for a partner, without covered ones;
-    /// none where it would be full.
-    fn by_values(&self, x: usize, y: usize, bound: usize) -> Option<Table> {
-        let (labels, many) = self.one.labels_of();
-        let mut all = Table::empty();
-        let whole = self.gather(&labels[..many], &Table::one(x, 1 << y), bound, &mut all);
-        whole.then_some(all)
+    /// One level more, with its tips as they are or widened; false, and the same levels, where there is no room for it.
+    fn deepen(&self, levels: &mut Levels, wide: bool) -> bool {
+        let (known, exact) = (levels.known, levels.exact);
+        let base = levels.ends[known];
+        let old = levels.table.clone();
+        let from = Classes {
+            table: &old,
+            first: exact.checked_sub(1).map_or(0, |below| levels.ends[below]),
+            count: levels.ends[exact],
+        };
+        if !self.gather(wide, from, known + 1 - exact, &mut levels.table, base) {
+            levels.table.count = base;
+            return false;
+        }
+        levels.known += 1;
+        levels.ends[known + 1] = levels.table.count;
+        if !wide {
+            levels.exact = known + 1;
+        }
+        true
+    }
+
+    /// More levels, up to level n or until there is no room for the next. They are widened where the table is too small for them as they are, above one that
+    /// is, and at the bound.
+    fn reach(&self, levels: &mut Levels, n: usize, bound: usize, small: bool) {
+        while levels.known < n {
+            let wide = small || levels.exact < levels.known || levels.known + 1 == bound;
+            if !self.deepen(levels, wide) {
+                return;
+            }
+        }
     }
 
     /// Puts the tips one link beyond the tip (cell, w) into a table with one tip a cell. Links with one label come one after another.
@@ -577,25 +649,29 @@ impl<const PLACES: usize> Search<'_, PLACES> {
                 self.cut_links(cell, old.rights[cell], &mut table);
             }
         }
-        !self.two_tips(&table, &table)
+        !self.two_tips(table.whole(), table.whole())
     }
 
-    /// A table tells that no two paths of at most `bound` links from x are without counterpart from y.
-    fn none_fails(&self, x: usize, y: usize, bound: usize) -> bool {
-        if self.by_cells(x, y, bound) {
-            BY_CELLS.fetch_add(1, Ordering::Relaxed);
-            return true;
+    /// Fills all levels, as far as there is room for them. Whether they, or one tip a cell where some are too large, tell that no two paths of at most
+    /// `bound` links from x are without counterpart from y.
+    fn none_fails(&self, levels: &mut Levels, x: usize, y: usize, bound: usize) -> bool {
+        self.reach(levels, bound, bound, false);
+        if levels.known < bound {
+            count(&LARGE);
+            if self.by_cells(x, y, bound) {
+                count(&BY_CELLS);
+                return true;
+            }
+            self.reach(levels, bound, bound, true);
         }
-        let clash = self
-            .by_values(x, y, bound)
-            .map(|table| self.two_tips(&table, &table));
-        let seen = match clash {
-            Some(false) => &QUIET,
-            Some(true) => &CLASHED,
-            None => &UNKNOWN,
-        };
-        seen.fetch_add(1, Ordering::Relaxed);
-        clash == Some(false)
+        if levels.known < bound {
+            count(&UNKNOWN);
+            return false;
+        }
+        let all = levels.table.whole();
+        let clash = self.two_tips(all, all);
+        count(if clash { &CLASHED } else { &QUIET });
+        !clash
     }
 
     /// A link from x without counterpart from y.
@@ -605,7 +681,7 @@ impl<const PLACES: usize> Search<'_, PLACES> {
     }
 
     /// First a link without counterpart; else two paths of at most `bound` links each, fewest in all first. Before those of `LATE`
-    /// links one table is asked whether there are any.
+    /// links all levels are filled, and asked whether there are any.
     fn reason(&self, x: usize, y: usize, bound: usize) -> Option<Reason> {
         if let Some(k) = self.one_link(x, y) {
             return Some(Reason {
@@ -617,12 +693,16 @@ impl<const PLACES: usize> Search<'_, PLACES> {
                 second: STAY,
             });
         }
+        let mut levels = Levels::new(x, y);
         for total in 0..=2 * bound {
-            if total == LATE && self.none_fails(x, y, bound) {
+            if total < LATE {
+                self.reach(&mut levels, total.min(bound), bound, false);
+            }
+            if total == LATE && self.none_fails(&mut levels, x, y, bound) {
                 return None;
             }
             for i in total.saturating_sub(bound)..=total / 2 {
-                let reason = self.two_paths(x, y, i, total - i);
+                let reason = self.pair_at(&levels, x, y, i, total - i);
                 if reason.is_some() {
                     return reason;
                 }
@@ -810,7 +890,7 @@ fn round<const PLACES: usize>(
             let place = i * m + j;
             let follows = twin < i && map[twin * m + j] == 0;
             if map[place] == 0 && !live.has(i, j) {
-                IDLE.fetch_add(1, Ordering::Relaxed);
+                count(&IDLE);
             } else if map[place] == 0 && !follows {
                 let place = &mut map[place];
                 if let Some(reason) = ahead.reason(i, j, bound) {
@@ -833,7 +913,7 @@ fn round<const PLACES: usize>(
     }
 }
 
-/// Compare, or its one-way form, with all refusals. The library's tables have 128 places.
+/// Compare, or its one-way form, with all refusals. The library's tables have 64 places.
 pub fn compare<const PLACES: usize>(
     sides: Sides,
     left: &[u8],

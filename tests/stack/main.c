@@ -1,4 +1,4 @@
-/* Runs the two functions for texts on threads that have just as much stack as the header promises to suffice, beside what a
+/* Runs the two functions for texts and both forms of Compare on threads that have just as much stack as the header promises to suffice, beside what a
  * thread takes for itself. */
 #include <inttypes.h>
 #include <stdbool.h>
@@ -7,6 +7,7 @@
 #include <string.h>
 
 #include "chains.h"
+#include "comparing.h"
 #include "cuhnavel.h"
 #include "threads.h"
 
@@ -78,5 +79,7 @@ int main(void)
     for (size_t k = 0; k < 2; k++)
         printf("%s takes %zu bytes of %zu, ", functions[k].name, functions[k].most, functions[k].promised);
     printf("the thread itself %zu, over %zu chains of each version\n", itself, places_count);
+    size_t most = compare_on_stack(itself);
+    printf("stack: both forms of Compare take %zu bytes of %d, over %zu pairs of books at bounds 0 to 4\n", most, CUHNAVEL_COMPARE_STACK, pairs_compared());
     return 0;
 }

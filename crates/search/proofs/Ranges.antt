@@ -9,6 +9,7 @@ use Rattle.search_links.specs.Hops.{View}
 use Rattle.search_pairs.specs.declared.Pair.{Pair}
 use Rattle.search_pairs.specs.Pairs.{Asked, Clear, Sought}
 use Rattle.search_cover.specs.Covering.{NoneFails}
+use Rattle.search_levels.specs.Depths.{Settled}
 use Rattle.search.specs.Lengths.{Ready, Total, Most, Finding}
 
 pub asked : (sa ta sb tb : List ℕ) (x y i j : ℕ) → Ready sa ta sb tb x y → i ≤ 4 → j ≤ 4 → Asked sa ta sb tb x y i j
@@ -20,6 +21,10 @@ under k i m = omega arith
 
 clear-at : (v u : View) (z ea eb : List ℕ) (x y k l i j : ℕ) → k ≡ i → l ≡ j → Clear v u z ea eb x y i j → Clear v u z ea eb x y k l
 clear-at v u z ea eb x y k l i j d e c = rw (d, e) c
+
+-- two lengths of s in all
+pub settled-at : (v u : View) (z ea eb : List ℕ) (x y c s i : ℕ) → i ≤ s → Settled v u z ea eb x y c s → Settled v u z ea eb x y c (i + (s - i))
+settled-at v u z ea eb x y c s i l h = let e : i + (s - i) ≡ s = omega arith in rw e h
 
 -- ---- the lengths of s in all whose first is below i
 pub record LengthsTo (v u : View) (z ea eb : List ℕ) (x y c s i : ℕ) : Type 0 where
@@ -54,12 +59,9 @@ module _ (v u : View) (z ea eb : List ℕ) (x y c s : ℕ) where
     }
 
 -- ---- the lengths of less than s in all
-pub record TotalsTo (v u : View) (z ea eb : List ℕ) (x y c s : ℕ) : Type 0 where
-  pub each : (k l : ℕ) → Most c k l → k + l < s → Clear v u z ea eb x y k l
-
 module _ (v u : View) (z ea eb : List ℕ) (x y c : ℕ) where
-  pub totals-start : TotalsTo v u z ea eb x y c 0
-  totals-start = record { each = λ k l w m. absurd (omega arith) }
+  pub totals-start : Settled v u z ea eb x y c 0
+  totals-start = record { each = λ k l a b m. absurd (omega arith) }
 
   -- nothing fails at all
   pub totals-none : (r : Pair) → r .kind ≡ 0 → NoneFails v u z ea eb x y c → Finding v u z ea eb x y (Most c) r
@@ -68,17 +70,17 @@ module _ (v u : View) (z ea eb : List ℕ) (x y c : ℕ) where
     none = λ _ k l w. record { each = λ p q tp lp tq lq. h .each p q tp (omega (arith, w .order, w .most)) tq (omega (arith, w .most)) };
   }
 
-  module _ (s : ℕ) (h : TotalsTo v u z ea eb x y c s) (r : Pair) where
-    pub totals-next : Finding v u z ea eb x y (Total c s) r → r .kind ≡ 0 → TotalsTo v u z ea eb x y c (s + 1)
+  module _ (s : ℕ) (h : Settled v u z ea eb x y c s) (r : Pair) where
+    pub totals-next : Finding v u z ea eb x y (Total c s) r → r .kind ≡ 0 → Settled v u z ea eb x y c (s + 1)
     totals-next o n = record {
-      each = λ k l w m. ⊎-elim
-          (λ q. o .none n k l (record { all = q; order = w .order; most = w .most }))
-          (λ b. h .each k l w b)
+      each = λ k l a b m. ⊎-elim
+          (λ q. o .none n k l (record { all = q; order = a; most = b }))
+          (λ d. h .each k l a b d)
           (eq-or-lt-of-le (under (k + l) s m));
     }
 
     pub totals-end : c + c < s → r .kind ≡ 0 → Finding v u z ea eb x y (Most c) r
-    totals-end g d = record { found = λ n. absurd (n d); none = λ _ k l w. h .each k l w (omega (arith, w .order, w .most)) }
+    totals-end g d = record { found = λ n. absurd (n d); none = λ _ k l w. h .each k l (w .order) (w .most) (omega (arith, w .order, w .most)) }
 
     pub totals-found : Finding v u z ea eb x y (Total c s) r → (r .kind ≡ 0 → ⊥) → Finding v u z ea eb x y (Most c) r
     totals-found o n =
@@ -90,7 +92,7 @@ module _ (v u : View) (z ea eb : List ℕ) (x y c : ℕ) where
             record { order = w .order; most = w .most },
             f,
             λ k l m. ⊎-elim
-                (λ e. h .each k l m (omega (arith, w .all)))
+                (λ e. h .each k l (m .order) (m .most) (omega (arith, w .all)))
                 (λ (e, q). b k l (record { all = e ∙ w .all; order = m .order; most = m .most }) (inr (e, q))),
           );
           none = λ e. absurd (n e);

@@ -5,7 +5,7 @@ use mathlib.Core.Logic.{_↔_}
 use mathlib.Core.List.{List}
 use Prim.Native.Nat.{ℕ, zero, suc, _<_}
 use native.Mathlib.Omega.{arith}
-use borrow.Author.Tests.{eqb-true}
+use borrow.Author.Tests.{eqb-true, eq-eqb}
 use lib.Dec.{ltb}
 use lib.ListN.{getD}
 use Rattle.theory.specs.TestLaws.{never, and-iff, ltb-iff, list-at, eqb-turn}
@@ -49,6 +49,11 @@ passes-alike t a b c e f =
     let ((_, k), q) = simp and-iff at f in
     simp and-iff ((h, k), compared-alike dataValue t a b c p q)
 
+-- and a recording that passes some comparison is the same as itself
+passes-own : (t : Comparison) (a b : ℕ) → passes t a b ≡ true → passes same a a ≡ true
+unfolding passes compared
+passes-own t a b e = let ((h, _), _) = simp and-iff at e in simp and-iff ((h, h), eq-eqb (dataValue a) (dataValue a) refl)
+
 module _ (h : ℕ) (s : List ℕ) (count : ℕ) (fs ls ts starts ends : List ℕ) (d : Read h s count fs ls ts starts ends) where
   -- row x of a comparison, in the table
   row-is : (t : Comparison) (x : ℕ) → x < 64 → rowAt ends (numberOf t) x ≡ getD (passing h s t) x 0
@@ -81,6 +86,10 @@ module _ (h : ℕ) (s : List ℕ) (count : ℕ) (fs ls ts starts ends : List ℕ
         let (k, n) = number t l in
         let (a, b, e′) = row-iff k x y lx .0 (rw n e) in
         rw (← n) (row-iff k y x ly .1 (b, a, passes-symmetric k _ _ e′));
+    own = λ t x y l lx ly e.
+        let (k, n) = number t l in
+        let (a, _, e′) = row-iff k x y lx .0 (rw n e) in
+        row-iff same x x lx .1 (a, a, passes-own k _ _ e′);
   }
     where
       number : (t : ℕ) → t < 2 → (k : Comparison) × (numberOf k ≡ t)

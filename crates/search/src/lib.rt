@@ -3,8 +3,10 @@
 ghost use Prim.Native.Nat.{_+_, _≤_};
 ghost use Rattle.search_links.specs.Hops.{viewOf};
 ghost use Rattle.search_links.specs.Sets.{Valued};
+ghost use Rattle.search_levels.specs.Depths.{Laid, Standing, Settled};
 ghost use Rattle.search.specs.Lengths.{Ready, Finding, Total, Most, Single};
 ghost use Rattle.search.specs.Reasons.{Answered};
+use search_levels::Levels;
 use search_pairs::Pair;
 use search_pairs::Route;
 
@@ -16,7 +18,8 @@ pub struct Reason {
     pub second: Route,
 }
 
-// The first two paths of s links in all, the first no longer than the second, neither longer than c: those with the shortest first path.
+// The first two paths of s links in all, the first no longer than the second, neither longer than c: those with the shortest first path. No two of fewer
+// links in all fail.
 fn by_lengths(
     sa: &[u16; 65],
     la: &[u16; 512],
@@ -27,12 +30,15 @@ fn by_lengths(
     tb: &[u8; 512],
     eb: &[u64; 128],
     z: &[u64; 64],
+    lefts: &[u64; 64],
+    rights: &[u64; 64],
+    levels: Levels,
     x: u8,
     y: u8,
     c: u8,
     s: u8,
 ) -> Pair
-    requires { ⌜ Ready (now sa) (now ta) (now sb) (now tb) x y × (c ≤ 4) × (s ≤ c + c) ⌝ }
+    requires { ⌜ Ready (now sa) (now ta) (now sb) (now tb) x y × (c ≤ 4) × (s ≤ c + c) × Valued (now ea) × Valued (now eb) × Laid (now lefts) (now rights) levels × Standing (viewOf (now sa) (now la) (now ta)) (viewOf (now sb) (now lb) (now tb)) (now z) (now ea) (now eb) x y c (now lefts) (now rights) levels × Settled (viewOf (now sa) (now la) (now ta)) (viewOf (now sb) (now lb) (now tb)) (now z) (now ea) (now eb) x y c s ⌝ }
     ensures { λ r. ⌜ Finding (viewOf (now (sa .entry)) (now (la .entry)) (now (ta .entry))) (viewOf (now (sb .entry)) (now (lb .entry)) (now (tb .entry))) (now (z .entry)) (now (ea .entry)) (now (eb .entry)) x y (Total c s) r ⌝ }
 {
     let mut i = 0u8;
@@ -40,7 +46,25 @@ fn by_lengths(
         i = s - c;
     }
     while i <= s / 2 {
-        let r = search_pairs::two_paths(sa, la, ta, ea, sb, lb, tb, eb, z, x, y, i, s - i);
+        let r = search_levels::pair_at(
+            sa,
+            la,
+            ta,
+            ea,
+            sb,
+            lb,
+            tb,
+            eb,
+            z,
+            lefts,
+            rights,
+            levels,
+            x,
+            y,
+            c,
+            i,
+            s - i,
+        );
         if r.kind != 0 {
             return r;
         }
@@ -49,8 +73,7 @@ fn by_lengths(
     search_pairs::no_pair()
 }
 
-// The first two paths of at most c links each, fewest in all first. Those of less than 3 links in all are soon looked through; before the others, one
-// table may tell that there are none.
+// The first two paths of at most c links each, fewest in all first, by the levels of x with y for its partner.
 fn by_total(
     sa: &[u16; 65],
     la: &[u16; 512],
@@ -65,20 +88,59 @@ fn by_total(
     y: u8,
     c: u8,
 ) -> Pair
-    requires { ⌜ Ready (now sa) (now ta) (now sb) (now tb) x y × (c ≤ 4) × Valued (now eb) ⌝ }
+    requires { ⌜ Ready (now sa) (now ta) (now sb) (now tb) x y × (c ≤ 4) × Valued (now ea) × Valued (now eb) ⌝ }
     ensures { λ r. ⌜ Finding (viewOf (now (sa .entry)) (now (la .entry)) (now (ta .entry))) (viewOf (now (sb .entry)) (now (lb .entry)) (now (tb .entry))) (now (z .entry)) (now (ea .entry)) (now (eb .entry)) x y (Most c) r ⌝ }
 {
+    let mut lefts = [0u64; 64];
+    let mut rights = [0u64; 64];
+    lefts[0] = words::only(x);
+    rights[0] = words::only(y);
+    let mut levels = search_levels::first_level();
     let mut s = 0u8;
     while s <= c + c {
-        if s == 3 {
-            if search_cover::none_fails(sa, la, ta, ea, sb, lb, tb, eb, z, x, y, c) {
-                return search_pairs::no_pair();
-            }
+        let now = search_levels::ready(
+            sa,
+            la,
+            ta,
+            ea,
+            sb,
+            lb,
+            tb,
+            eb,
+            z,
+            &mut lefts,
+            &mut rights,
+            levels,
+            x,
+            y,
+            c,
+            s,
+        );
+        if now.none {
+            return search_pairs::no_pair();
         }
-        let r = by_lengths(sa, la, ta, ea, sb, lb, tb, eb, z, x, y, c, s);
+        let r = by_lengths(
+            sa,
+            la,
+            ta,
+            ea,
+            sb,
+            lb,
+            tb,
+            eb,
+            z,
+            &lefts,
+            &rights,
+            now,
+            x,
+            y,
+            c,
+            s,
+        );
         if r.kind != 0 {
             return r;
         }
+        levels = now;
         s += 1;
     }
     search_pairs::no_pair()
@@ -129,7 +191,7 @@ pub fn reason_for(
     y: u8,
     c: u8,
 ) -> Reason
-    requires { ⌜ Ready (now sa) (now ta) (now sb) (now tb) x y × (c ≤ 4) × Valued (now eb) ⌝ }
+    requires { ⌜ Ready (now sa) (now ta) (now sb) (now tb) x y × (c ≤ 4) × Valued (now ea) × Valued (now eb) ⌝ }
     ensures { λ r. ⌜ Answered (viewOf (now (sa .entry)) (now (la .entry)) (now (ta .entry))) (viewOf (now (sb .entry)) (now (lb .entry)) (now (tb .entry))) (now (z .entry)) (now (ea .entry)) (now (eb .entry)) x y c r ⌝ }
 {
     let link = one_link(sa, la, ta, sb, lb, tb, z, x, y);

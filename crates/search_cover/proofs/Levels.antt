@@ -55,7 +55,7 @@ module _ (v u : View) (z : List ℕ) where
       }
 
 -- ---- tables with one class a cell
-pub celled-none : (ls rs : List ℕ) → ls ≡ replicate 128 0 → rs ≡ replicate 128 0 → Celled ls rs
+pub celled-none : (ls rs : List ℕ) → ls ≡ replicate 64 0 → rs ≡ replicate 64 0 → Celled ls rs
 celled-none ls rs dl dr = record {
   left = ap length dl;
   right = ap length dr;
@@ -63,7 +63,7 @@ celled-none ls rs dl dr = record {
 }
   where
     zeros : (e : ℕ) → e < 64 → getD ls e 0 ≡ 0
-    zeros e l = rw dl (getD-replicate 128 e 0 0 (omega arith))
+    zeros e l = rw dl (getD-replicate 64 e 0 0 (omega arith))
 
 -- the tip (y, s) is put in class y: s is inside o, and inside the set that was there, if there was one
 module _ (ls rs : List ℕ) (y o l s : ℕ) (h : Celled ls rs) (low : y < 64) (dl : l ≡ 2 ^ y) (i : Inside s o) (j : (getD ls y 0 ≡ 0) ⊎ Inside s (getD rs y 0)) where

@@ -1,21 +1,19 @@
--- Tables with one class a cell, tables by what comparisons see, and what a quick decision says of all paths of at most c links.
-use mathlib.Core.Bool.{false, So}
+-- Tables with one class a cell, and what a quick decision says of all paths of at most c links.
+use mathlib.Core.Bool.{So}
 use mathlib.Core.Path.{_≡_}
 use mathlib.Core.List.{List}
 use Prim.Native.Nat.{ℕ, _≤_, _<_}
 use lib.ListN.{length, getD}
 use Rattle.words.specs.Words.{bit}
 use Rattle.search_links.specs.Hops.{View, labelOf, toOf}
-use Rattle.search_links.specs.Sets.{spread, rowAt}
-use Rattle.search_tables.specs.declared.Grown.{Grown}
-use Rattle.search_tables.specs.Tips.{Has, Covered, TableRoom}
-use Rattle.search_steps.specs.Paths.{Leaves, Trail, endOf, stepWord, endsOver}
+use Rattle.search_tables.specs.Tips.{Has, Covered}
+use Rattle.search_steps.specs.Paths.{Leaves, Trail, stepWord}
 use Rattle.search_pairs.specs.Pairs.{failure}
 
 -- A table of 64 classes, of which class e has no other node than e.
 pub record Celled (ls rs : List ℕ) : Type 0 where
-  pub left : length ls ≡ 128
-  pub right : length rs ≡ 128
+  pub left : length ls ≡ 64
+  pub right : length rs ≡ 64
   pub only : (e x : ℕ) → e < 64 → So (bit (getD ls e 0) x) → x ≡ e
 
 -- The table covers what it covered, and the tip (y, o).
@@ -35,24 +33,6 @@ pub record BeyondCells (v u : View) (z l r : List ℕ) (n : ℕ) (ls rs ls′ rs
   pub celled : Celled ls′ rs′
   pub kept : (a o : ℕ) → Has ls rs 64 a o → Covered ls′ rs′ 64 a o
   pub whole : (a o k : ℕ) → Has l r n a o → Leaves v a k → Covered ls′ rs′ 64 (toOf v k) (stepWord u z o (labelOf v k) (toOf v k))
-
--- The nodes that pass same with a node of w: what comparisons see of w.
-abbrev pub sharing : List ℕ → ℕ → ℕ
-sharing ends w = spread (rowAt ends 0) w
-
--- The table covers what it covered, and unless it was full, the tips of the first m classes of another, each with what comparisons see of its set.
-pub record Shared (eb l r : List ℕ) (m : ℕ) (ls rs : List ℕ) (n : ℕ) (ls′ rs′ : List ℕ) (g : Grown) : Type 0 where
-  pub room : TableRoom ls′ rs′ (g .count)
-  pub kept : (a o : ℕ) → Has ls rs n a o → Covered ls′ rs′ (g .count) a o
-  pub whole : g .full ≡ false → (a o : ℕ) → Has l r m a o → Covered ls′ rs′ (g .count) a (sharing eb o)
-
--- The table covers what it covered, and unless it was full, the tips of all paths of at most d links from those of another, each with what
--- comparisons see of its set.
-pub record Gathered (v u : View) (z eb l r : List ℕ) (m d : ℕ) (ls rs : List ℕ) (n : ℕ) (ls′ rs′ : List ℕ) (g : Grown) : Type 0 where
-  pub room : TableRoom ls′ rs′ (g .count)
-  pub kept : (a o : ℕ) → Has ls rs n a o → Covered ls′ rs′ (g .count) a o
-  pub whole : g .full ≡ false → (a o : ℕ) (s : List ℕ) → Has l r m a o → Trail v a s → length s ≤ d
-      → Covered ls′ rs′ (g .count) (endOf v a s) (sharing eb (endsOver v u z o s))
 
 -- No two paths of at most c links from x fail.
 pub record NoneFails (v u : View) (z ea eb : List ℕ) (x y c : ℕ) : Type 0 where

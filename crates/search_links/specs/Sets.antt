@@ -1,5 +1,5 @@
 -- The sets of nodes that the search computes, as words.
-use mathlib.Core.Bool.{Bool, false, So, _&&_, _||_}
+use mathlib.Core.Bool.{Bool, false, So, cond, _&&_, _||_}
 use mathlib.Core.Path.{_≡_}
 use mathlib.Core.List.{List, [], _∷_}
 use Prim.Native.Nat.{ℕ, zero, suc, _+_, _-_, _*_, _<_}
@@ -45,7 +45,17 @@ pub record Paired (same differ ends : List ℕ) : Type 0 where
   pub first : (x : ℕ) → x < 64 → rowAt ends 0 x ≡ getD same x 0
   pub second : (x : ℕ) → x < 64 → rowAt ends 1 x ≡ getD differ x 0
 
--- Comparisons go by a value: nodes that pass same pass each comparison with the same nodes, and they pass it from both sides.
+-- Comparisons go by a value: nodes that pass same pass each comparison with the same nodes, they pass it from both sides, and a node that passes some
+-- comparison passes same with itself.
 pub record Valued (ends : List ℕ) : Type 0 where
   pub alike : (t x y z : ℕ) → t < 2 → x < 64 → y < 64 → So (bit (rowAt ends 0 x) y) → So (bit (rowAt ends t y) z) → So (bit (rowAt ends t x) z)
   pub turned : (t x y : ℕ) → t < 2 → x < 64 → y < 64 → So (bit (rowAt ends t x) y) → So (bit (rowAt ends t y) x)
+  pub own : (t x y : ℕ) → t < 2 → x < 64 → y < 64 → So (bit (rowAt ends t x) y) → So (bit (rowAt ends 0 x) x)
+
+-- The nodes that pass same with a node of w: what comparisons see of w.
+abbrev pub sharing : List ℕ → ℕ → ℕ
+sharing ends w = spread (rowAt ends 0) w
+
+-- A set as it is, or widened to what comparisons see of it.
+unfoldable pub seenAs : List ℕ → Bool → ℕ → ℕ
+seenAs ends wide w = cond wide (sharing ends w) w

@@ -4,7 +4,7 @@ ghost use mathlib.Core.Path.{_≡_};
 ghost use Prim.Native.Nat.{_≤_, _<_};
 ghost use lib.ListN.{getD};
 ghost use Rattle.search_links.specs.Hops.{viewOf, hopsOf, lead, Starts, Opened};
-ghost use Rattle.search_links.specs.Sets.{reached, leadsTo, spread, imageOf, rowAt, Paired};
+ghost use Rattle.search_links.specs.Sets.{reached, leadsTo, spread, imageOf, rowAt, Paired, seenAs};
 
 // The comparisons, by their place among the rows of the cells that pass one: those of same come first.
 pub const SAME: u8 = 0;
@@ -144,4 +144,14 @@ pub fn passing(ends: &[u64; 128], t: u8, w: u64) -> u64
         left = words::without(left, x);
     }
     out
+}
+
+// A set of cells as it is, or all cells that pass same with one of its cells: comparisons see no more of it.
+pub fn seen_as(ends: &[u64; 128], wide: bool, w: u64) -> u64
+    ensures { λ r. ⌜ r ≡ seenAs (now (ends .entry)) wide w ⌝ }
+{
+    if wide {
+        return passing(ends, SAME, w);
+    }
+    w
 }

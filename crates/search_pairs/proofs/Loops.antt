@@ -1,12 +1,13 @@
 -- The loops over the parts one link beyond a table, and over the links out of a node: what each turn and each way out shows.
 use mathlib.Core.Bool.{Bool, true, false, cond}
 use mathlib.Core.Path.{_≡_, refl, sym, _∙_}
-use mathlib.Core.Logic.{⊎-elim}
+use mathlib.Core.Logic.{inl, inr, ⊎-elim}
 use mathlib.Core.List.{List, [], _∷_}
-use Prim.Native.Nat.{ℕ, _+_, _-_, _*_, _^_, _≤_, _<_}
+use Prim.Native.Nat.{ℕ, _+_, _-_, _^_, _≤_, _<_}
 use native.Mathlib.Nat.{pos-of-ne-zero, eq-or-lt-of-le}
 use native.Mathlib.Omega.{arith}
-use lib.ListN.{length, getD, set, length-set}
+use lib.ListN.{length, getD, set}
+use lib.Seq.{length-take-le}
 use Rattle.theory.specs.TestLaws.{never, le-or-lt}
 use Rattle.words.specs.Words.{Inside}
 use Rattle.search_links.specs.Hops.{View, startOf, labelOf, toOf, Opened}
@@ -14,14 +15,14 @@ use Rattle.search_steps.specs.declared.Part.{Part}
 use Rattle.search_steps.specs.Paths.{Leaves, Trail, endOf, stepWord, endsOver}
 use Rattle.search_tables.specs.Tips.{Has}
 use Rattle.search_tables.specs.Laws.{inside-refl, one-has, one-only}
-use Rattle.search_steps.specs.Tables.{Named, Moves, slot, Filled}
-use Rattle.search_steps.specs.Laws.{leaves-below, leaves-low, over-inside}
+use Rattle.search_steps.specs.Tables.{Moves, slot, lastPlace, Passed, Filled}
+use Rattle.search_steps.specs.Laws.{leaves-below, leaves-low, over-inside, part-sound, part-whole}
 use Rattle.search_pairs.specs.declared.Route.{Route}
 use Rattle.search_pairs.specs.declared.Tail.{Tail}
 use Rattle.search_pairs.specs.declared.Pair.{Pair}
 use Rattle.search_pairs.specs.Pairs.{fault, alone, failure, linksIn, Before, Sought}
 use Rattle.search_pairs.specs.Laws.{fault-inside}
-use Rattle.search_pairs.specs.Tails.{noLinks, Prepended, Met, faultOf, Hit, Safe, Hitting, Searched, Ahead, Barren, Told, Next, Foremost}
+use Rattle.search_pairs.specs.Tails.{noLinks, Prepended, Met, faultOf, Hit, Safe, Hitting, Searched, Ahead, Barren, Told, Next, Foremost, StandsFor}
 
 empty : (p : List ℕ) → length p ≡ 0 → p ≡ []
 empty [] e = refl
@@ -94,38 +95,37 @@ module _ (v u : View) (z ea eb : List ℕ) (turned : Bool) (ql qr : List ℕ) (q
       by y o false e = fault-inside ea eb x w w′ _ _ _ k (inside-refl _) e
 
   -- ---- the loop over the parts one link further than a table
-  module _ (labels : List ℕ) (many : ℕ) (pl pr : List ℕ) (pn : ℕ) where
+  module _ (pl pr : List ℕ) (pn : ℕ) where
     -- every path of d links more than one by a class and a label before a place is cleared
     pub record Below (d at : ℕ) : Type 0 where
-      pub each : (e i x k : ℕ) (s : List ℕ) → Moves v labels many pl pn e i x k → slot e i < at → Trail v (toOf v k) s → length s ≡ d
+      pub each : (e x k : ℕ) (s : List ℕ) → Moves v pl 0 pn e x k → Passed (slot e (labelOf v k)) at → Trail v (toOf v k) s → length s ≡ d
           → Safe v u z ea eb turned ql qr qn j (endOf v (toOf v k) s) (endsOver v u z (stepWord u z (getD pr e 0) (labelOf v k) (toOf v k)) s)
 
     pub below-start : (d : ℕ) → Below d 0
-    below-start d = record { each = λ e i x k s m l. absurd (omega arith) }
+    below-start d = record { each = λ e x k s m l. absurd (⊎-elim (λ b. omega arith) (λ q. omega arith) l) }
 
-    pub below-end : Opened (v .starts) (v .to) → Named (v .starts) (v .labels) labels many → (at more : ℕ) → (more ≡ 0 → ⊥) → (f : Bool) → f ≡ false
-        → 128 * many ≤ at → pn ≤ 128 → Below (more - 1) at → Searched v u z ea eb turned pl pr pn more ql qr qn j f
+    pub below-end : (at more : ℕ) → (more ≡ 0 → ⊥) → (f : Bool) → f ≡ false → lastPlace ≤ at → at ≤ lastPlace → Below (more - 1) at
+        → Searched v u z ea eb turned pl pr pn more ql qr qn j f
     unfolding Trail endOf endsOver
-    below-end o names at more pos f e l few b =
+    below-end at more pos f e l few b =
         record { some = λ t. never (sym e ∙ t); none = λ _ x w s h. go x w s (h .has) (h .trail) (h .long) }
       where
         go : (x w : ℕ) (s : List ℕ) → Has pl pr pn x w → Trail v x s → length s ≡ more → Safe v u z ea eb turned ql qr qn j (endOf v x s) (endsOver v u z w s)
         go x w [] h t q = absurd (pos (sym q))
         go x w (k ∷ s) h (t, r) q =
-            let (i, a, c) = names .each k (leaves-below v o x k (h .cell) t) in
-            let m : Moves v labels many pl pn (h .class) i x k = record { class = h .below; label = a; cell = h .cell; inside = h .inside; leaves = t; named = sym c } in
-            rw (← h .word) (b .each (h .class) i x k s m (omega (arith, h .below)) r (omega arith))
+            let m : Moves v pl 0 pn (h .class) x k = record { least = omega arith; class = h .below; cell = h .cell; inside = h .inside; leaves = t } in
+            rw (← h .word) (b .each (h .class) x k s m (inr (omega arith)) r (omega arith))
 
-    module _ (at : ℕ) (ls rs : List ℕ) (p : Part) (f : Bool) (more : ℕ) (g : Filled v u z labels many pl pr pn at ls rs p)
+    module _ (at : ℕ) (ls₀ rs₀ ls rs : List ℕ) (p : Part) (f : Bool) (more : ℕ) (g : Filled v u z eb false pl pr 0 pn at ls₀ rs₀ 0 0 ls rs p)
         (h : Searched v u z ea eb turned ls rs (p .count) (more - 1) ql qr qn j f) where
       pub below-next : f ≡ false → Below (more - 1) at → Below (more - 1) (p .next)
       below-next q b = record {
-        each = λ e i x k s m l t d. ⊎-elim
+        each = λ e x k s m l t d. ⊎-elim
             (λ o.
-            let c = g .whole e i x k m o l in
+            let c = part-whole v u z eb pl pr 0 pn at ls₀ rs₀ ls rs p g e x k m o l in
             safe-wider _ _ _ (over-inside v u z s _ _ (c .inside)) (h .none q _ _ s (record { has = c .has; trail = t; long = d })))
-            (λ o. b .each e i x k s m o t d)
-            (le-or-lt at (slot e i));
+            (λ o. b .each e x k s m (inl o) t d)
+            (le-or-lt at (slot e (labelOf v k)));
       }
 
       -- a path from a part, with the link to it before it, is one from the table
@@ -135,7 +135,7 @@ module _ (v u : View) (z ea eb : List ℕ) (turned : Bool) (ql qr : List ℕ) (q
         where
           by : Hitting v u z ea eb turned ls rs (p .count) (more - 1) ql qr qn j → Hitting v u z ea eb turned pl pr pn more ql qr qn j
           by c =
-              let b = g .sound _ _ (c .runs .has) in
+              let b = part-sound v u z eb pl pr 0 pn at ls₀ rs₀ ls rs p g _ _ (c .runs .has) in
               record {
                 cell = b .cell;
                 word = b .word;
@@ -149,7 +149,7 @@ module _ (v u : View) (z ea eb : List ℕ) (turned : Bool) (ql qr : List ℕ) (q
               }
 
   -- ---- the table with the one tip (x, w)
-  pub told-one : (ls rs : List ℕ) (x w a : ℕ) → a ≡ 2 ^ x → length ls ≡ 128 → length rs ≡ 128 → x < 64 → (d : ℕ) (f : Bool)
+  pub told-one : (ls rs : List ℕ) (x w a : ℕ) → a ≡ 2 ^ x → length ls ≡ 64 → length rs ≡ 64 → x < 64 → (d : ℕ) (f : Bool)
       → Searched v u z ea eb turned (set ls 0 a) (set rs 0 w) 1 d ql qr qn j f → Told v u z ea eb turned x w d ql qr qn j f
   told-one ls rs x w a da ll lr low d f h = record {
     some = λ e.
@@ -257,43 +257,60 @@ module _ (v u : View) (z ea eb : List ℕ) (turned : Bool) (ql qr : List ℕ) (q
             m
 
 -- ---- two paths from the tip (x, {y})
-module _ (v u : View) (z ea eb ls rs : List ℕ) (x y a b : ℕ) (da : a ≡ 2 ^ x) (db : b ≡ 2 ^ y) (low : x < 64) (ll : length ls ≡ 128) (lr : length rs ≡ 128) (i j : ℕ) where
-  pub sought-none : (f : Bool) → f ≡ false → Told v u z ea eb false x b i (set ls 0 a) (set rs 0 b) 1 j f → (r : Pair) → r .kind ≡ 0 → Sought v u z ea eb x y i j r
-  unfolding failure alone fault faultOf
-  sought-none f e t r d = record {
+pub ahead-at : (v u : View) (z ea eb : List ℕ) (x w w′ d : ℕ) (ql qr : List ℕ) (qn j : ℕ) → w ≡ w′ → Ahead v u z ea eb false x w d ql qr qn j
+    → Ahead v u z ea eb false x w′ d ql qr qn j
+ahead-at v u z ea eb x w w′ d ql qr qn j e a = rw (← e) a
+
+-- the table with that tip stands for the paths from it
+pub one-stands : (v u : View) (z ea eb ls rs : List ℕ) (x y a b : ℕ) → a ≡ 2 ^ x → b ≡ 2 ^ y → x < 64 → length ls ≡ 64 → length rs ≡ 64 → (i j : ℕ)
+    → StandsFor v u z ea eb x y i j (set ls 0 a) (set rs 0 b) 1 j
+unfolding failure alone fault faultOf
+one-stands v u z ea eb ls rs x y a b da db low ll lr i j = record {
+  some = λ p tp lp h.
+      let (dx, dw) = one-only ls rs x (2 ^ y) a b da db ll lr _ _ (h .runs .has) in
+      (h .path, rw dx at (h .runs .trail), h .runs .long, rw (dx, dw) at (h .fails));
+  none = λ p tp lp h q tq lq. h .each x (2 ^ y) q (record { has = one-has ls rs x (2 ^ y) a b da db ll lr low; trail = tq; long = lq });
+}
+
+module _ (v u : View) (z ea eb : List ℕ) (x y i j : ℕ) (ql qr : List ℕ) (qn rest : ℕ) (stands : StandsFor v u z ea eb x y i j ql qr qn rest) where
+  pub sought-none : (b : ℕ) → b ≡ 2 ^ y → (f : Bool) → f ≡ false → Told v u z ea eb false x b i ql qr qn rest f → (r : Pair) → r .kind ≡ 0 → Sought v u z ea eb x y i j r
+  sought-none b db f e t r d = record {
     found = λ n. absurd (n d);
-    none = λ _. record {
-      each = λ p q tp lp tq lq. rw db at (t .none e .each p tp lp .each x b q (record { has = one-has ls rs x b a b da refl ll lr low; trail = tq; long = lq }));
-    };
+    none = λ _. record { each = λ p q tp lp tq lq. stands .none p tp lp (rw db at (t .none e .each p tp lp)) q tq lq };
   }
 
-  module _ (p : Tail) (f : Foremost v u z ea eb false x b i (set ls 0 a) (set rs 0 b) 1 j p) (a′ : ℕ) (da′ : a′ ≡ 2 ^ p .cell) where
-    ll′ : length (set ls 0 a) ≡ 128
-    ll′ = length-set ls 0 a ∙ ll
+  module _ (b : ℕ) (db : b ≡ 2 ^ y) (p : Tail) (f : Foremost v u z ea eb false x b i ql qr qn rest p) (ls rs : List ℕ) (ll : length ls ≡ 64) (lr : length rs ≡ 64)
+      (a : ℕ) (da : a ≡ 2 ^ p .cell) (few : i ≤ 4) where
+    long-path : length (linksIn (p .path)) ≡ i
+    long-path = length-take-le (p .path .len) (p .path .links) (omega (arith, f .shaped .long, f .shaped .room)) ∙ f .shaped .long
 
-    lr′ : length (set rs 0 b) ≡ 128
-    lr′ = length-set rs 0 b ∙ lr
+    here : Has (set ls 0 a) (set rs 0 (p .word)) 1 (p .cell) (p .word)
+    here = one-has ls rs (p .cell) (p .word) a (p .word) da refl ll lr (f .low)
 
-    here : Has (set (set ls 0 a) 0 a′) (set (set rs 0 b) 0 (p .word)) 1 (p .cell) (p .word)
-    here = one-has (set ls 0 a) (set rs 0 b) (p .cell) (p .word) a′ (p .word) da′ refl ll′ lr′ (f .low)
+    hit-at : Hit v u z ea eb false ql qr qn rest (endOf v x (linksIn (p .path))) (endsOver v u z (2 ^ y) (linksIn (p .path)))
+    hit-at = rw (f .cell, f .word, db) at (f .hit)
+
+    fails-at : (q : List ℕ) → (failure v u z ea eb x y (linksIn (p .path)) q ≡ 0 → ⊥) → fault ea eb (p .cell) (p .word) (endOf v x q) (endsOver v u z b q) ≡ 0 → ⊥
+    unfolding failure alone fault
+    fails-at q n = rw (f .cell, f .word, db) n
 
     -- the second path, with the first fixed
-    pub second-ahead : Ahead v u z ea eb true x b j (set (set ls 0 a) 0 a′) (set (set rs 0 b) 0 (p .word)) 1 0
+    pub second-ahead : Ahead v u z ea eb true x b j (set ls 0 a) (set rs 0 (p .word)) 1 0
     unfolding Trail endOf endsOver faultOf
     second-ahead =
-        let (dx, dw) = one-only ls rs x b a b da refl ll lr _ _ (f .hit .runs .has) in
+        let (q, tq, lq, n) = stands .some (linksIn (p .path)) (f .trail) long-path hit-at in
         record {
-          path = f .hit .path;
-          trail = rw (← dx) (f .hit .runs .trail);
-          long = f .hit .runs .long;
-          hit = record { cell = p .cell; word = p .word; path = []; runs = record { has = here; trail = tt; long = refl }; fails = rw (← dx, ← dw) (f .hit .fails) };
+          path = q;
+          trail = tq;
+          long = lq;
+          hit = record { cell = p .cell; word = p .word; path = []; runs = record { has = here; trail = tt; long = refl }; fails = fails-at q n };
         }
 
-    module _ (q : Tail) (g : Foremost v u z ea eb true x b j (set (set ls 0 a) 0 a′) (set (set rs 0 b) 0 (p .word)) 1 0 q) (k : ℕ) (dk : k ≡ fault ea eb (p .cell) (p .word) (q .cell) (q .word)) where
+    module _ (q : Tail) (g : Foremost v u z ea eb true x b j (set ls 0 a) (set rs 0 (p .word)) 1 0 q) (k : ℕ) (dk : k ≡ fault ea eb (p .cell) (p .word) (q .cell) (q .word)) where
       fails-so : fault ea eb (p .cell) (p .word) (q .cell) (q .word) ≡ 0 → ⊥
       unfolding endOf endsOver faultOf
       fails-so =
-          let (dx, dw) = one-only (set ls 0 a) (set rs 0 b) (p .cell) (p .word) a′ (p .word) da′ refl ll′ lr′ _ _ (g .hit .runs .has) in
+          let (dx, dw) = one-only ls rs (p .cell) (p .word) a (p .word) da refl ll lr _ _ (g .hit .runs .has) in
           rw (empty (g .hit .path) (g .hit .runs .long), dx, dw) at (g .hit .fails)
 
       pub sought-some : (r : Pair) → r .kind ≡ k → r .first ≡ p .path → r .second ≡ q .path → Sought v u z ea eb x y i j r
@@ -303,8 +320,7 @@ module _ (v u : View) (z ea eb ls rs : List ℕ) (x y a b : ℕ) (da : a ≡ 2 ^
           first = (f .shaped, f .trail);
           second = (g .shaped, g .trail);
           fails = dk ∙ rw (f .cell, f .word, g .cell, g .word, db);
-          sooner = λ p′ q′ tp lp m tq lq.
-              rw db at (f .before p′ tp lp m .each x b q′ (record { has = one-has ls rs x b a b da refl ll lr low; trail = tq; long = lq }));
+          sooner = λ p′ q′ tp lp m tq lq. stands .none p′ tp lp (rw db at (f .before p′ tp lp m)) q′ tq lq;
           next = λ q′ t l m. rw (f .cell, f .word, db) at (g .before q′ t l m .each (p .cell) (p .word) [] (record { has = here; trail = tt; long = refl }));
         };
         none = λ e. absurd (fails-so (sym dk ∙ e));

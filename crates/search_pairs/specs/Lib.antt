@@ -1,3 +1,4 @@
 pub mod Pairs
 pub mod Tails
 pub mod Laws
+pub mod ValueLaws

@@ -2,15 +2,14 @@
 use mathlib.Core.Bool.{Bool, true, false, cond}
 use mathlib.Core.Path.{_≡_}
 use mathlib.Core.List.{List, _∷_}
-use Prim.Native.Nat.{ℕ, _+_, _≤_, _<_}
+use Prim.Native.Nat.{ℕ, _+_, _^_, _≤_, _<_}
 use lib.ListN.{length, replicate}
 use Rattle.search_links.specs.Hops.{View, labelOf, toOf, Opened}
 use Rattle.search_steps.specs.Paths.{Leaves, Trail, endOf, stepWord, endsOver}
 use Rattle.search_tables.specs.Tips.{Has}
-use Rattle.search_steps.specs.Tables.{Named}
 use Rattle.search_pairs.specs.declared.Route.{Route}
 use Rattle.search_pairs.specs.declared.Tail.{Tail}
-use Rattle.search_pairs.specs.Pairs.{linksIn, Shaped, fault, Before}
+use Rattle.search_pairs.specs.Pairs.{linksIn, Shaped, fault, failure, Before}
 
 -- The path with no links.
 abbrev pub noLinks : Route
@@ -72,13 +71,12 @@ pub record Searched (v u : View) (z ea eb : List ℕ) (turned : Bool) (pl pr : L
   pub some : f ≡ true → Hitting v u z ea eb turned pl pr pn i ql qr qn j
   pub none : f ≡ false → (x w : ℕ) (p : List ℕ) → Runs v pl pr pn i x w p → Safe v u z ea eb turned ql qr qn j (endOf v x p) (endsOver v u z w p)
 
--- What the search asks: two books' lists, the labels of the first, and tables that have room.
-pub record Seeking (sa la ta sb tb labels : List ℕ) (many pn qn : ℕ) : Type 0 where
+-- What the search asks: two books' lists, and tables that have room.
+pub record Seeking (sa ta sb tb : List ℕ) (pn qn : ℕ) : Type 0 where
   pub left : Opened sa ta
   pub right : Opened sb tb
-  pub named : Named sa la labels many
-  pub firsts : pn ≤ 128
-  pub seconds : qn ≤ 128
+  pub firsts : pn ≤ 64
+  pub seconds : qn ≤ 64
 
 -- ---- from one tip (x, w)
 -- Some path of d links leads to a tip that fails with that of a path of j links from a tip of the table.
@@ -113,3 +111,12 @@ pub record Foremost (v u : View) (z ea eb : List ℕ) (turned : Bool) (x w d : �
   pub hit : Hit v u z ea eb turned ql qr qn j (r .cell) (r .word)
   pub before : (p : List ℕ) → Trail v x p → length p ≡ d → Before p (linksIn (r .path))
       → Safe v u z ea eb turned ql qr qn j (endOf v x p) (endsOver v u z w p)
+
+-- ---- from the tip (x, {y})
+-- The paths of `rest` links from the tips of a table stand for the second paths of j links: a first path of i links fails with one of the ones exactly where
+-- it fails with one of the others.
+pub record StandsFor (v u : View) (z ea eb : List ℕ) (x y i j : ℕ) (ql qr : List ℕ) (qn rest : ℕ) : Type 0 where
+  pub some : (p : List ℕ) → Trail v x p → length p ≡ i → Hit v u z ea eb false ql qr qn rest (endOf v x p) (endsOver v u z (2 ^ y) p)
+      → (q : List ℕ) × Trail v x q × (length q ≡ j) × (failure v u z ea eb x y p q ≡ 0 → ⊥)
+  pub none : (p : List ℕ) → Trail v x p → length p ≡ i → Safe v u z ea eb false ql qr qn rest (endOf v x p) (endsOver v u z (2 ^ y) p)
+      → (q : List ℕ) → Trail v x q → length q ≡ j → failure v u z ea eb x y p q ≡ 0

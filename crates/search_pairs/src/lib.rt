@@ -1,11 +1,11 @@
 // The search for two paths without counterpart, in one direction: from cell x of the first book, with cell y of the other for its partner.
 // Whether there are any is decided over classes of paths that no test of the search can tell apart; the first two are then found link by link.
-ghost use mathlib.Core.Bool.{true};
+ghost use mathlib.Core.Bool.{true, false};
 ghost use mathlib.Core.Path.{_≡_};
-ghost use Prim.Native.Nat.{_+_, _≤_, _<_};
+ghost use Prim.Native.Nat.{_+_, _^_, _≤_, _<_};
 ghost use Rattle.search_links.specs.Hops.{viewOf};
 ghost use Rattle.search_pairs.specs.Pairs.{wantedOf, missing, unmet, failing, fault, Asked, Sought};
-ghost use Rattle.search_pairs.specs.Tails.{noLinks, Prepended, Met, Seeking, Searched, Ahead, Told, Next, Foremost};
+ghost use Rattle.search_pairs.specs.Tails.{noLinks, Prepended, Met, Seeking, Searched, Ahead, Told, Next, Foremost, StandsFor};
 
 // What a class of first paths asks of a class of second ones for one comparison: the ends that pass with one of its own, and the other book's
 // ends that pass with an end of a path alike to it.
@@ -49,14 +49,14 @@ fn unmatched(same: Wanted, differ: Wanted, l: u64, r: u64) -> bool
 pub fn two_tips(
     ea: &[u64; 128],
     eb: &[u64; 128],
-    pl: &[u64; 128],
-    pr: &[u64; 128],
+    pl: &[u64; 64],
+    pr: &[u64; 64],
     pn: usize,
-    ql: &[u64; 128],
-    qr: &[u64; 128],
+    ql: &[u64; 64],
+    qr: &[u64; 64],
     qn: usize,
 ) -> bool
-    requires { ⌜ (pn ≤ 128) × (qn ≤ 128) ⌝ }
+    requires { ⌜ (pn ≤ 64) × (qn ≤ 64) ⌝ }
     ensures { λ r. ⌜ Met (now (ea .entry)) (now (eb .entry)) (now (pl .entry)) (now (pr .entry)) pn (now (ql .entry)) (now (qr .entry)) qn r ⌝ }
 {
     let mut found = false;
@@ -89,19 +89,17 @@ fn seek(
     tb: &[u8; 512],
     eb: &[u64; 128],
     z: &[u64; 64],
-    labels: &[u16; 512],
-    many: usize,
-    pl: &[u64; 128],
-    pr: &[u64; 128],
+    pl: &[u64; 64],
+    pr: &[u64; 64],
     pn: usize,
     more: u8,
-    ql: &[u64; 128],
-    qr: &[u64; 128],
+    ql: &[u64; 64],
+    qr: &[u64; 64],
     qn: usize,
     rest: u8,
     turned: bool,
 ) -> bool
-    requires { ⌜ Seeking (now sa) (now la) (now ta) (now sb) (now tb) (now labels) many pn qn × (more ≤ 4) × (rest ≤ 4) × (turned ≡ true → rest ≡ 0) ⌝ }
+    requires { ⌜ Seeking (now sa) (now ta) (now sb) (now tb) pn qn × (more ≤ 4) × (rest ≤ 4) × (turned ≡ true → rest ≡ 0) ⌝ }
     ensures { λ r. ⌜ Searched (viewOf (now (sa .entry)) (now (la .entry)) (now (ta .entry))) (viewOf (now (sb .entry)) (now (lb .entry)) (now (tb .entry))) (now (z .entry)) (now (ea .entry)) (now (eb .entry)) turned (now (pl .entry)) (now (pr .entry)) pn more (now (ql .entry)) (now (qr .entry)) qn rest r ⌝ }
 {
     if more == 0 {
@@ -118,8 +116,6 @@ fn seek(
             tb,
             eb,
             z,
-            labels,
-            many,
             ql,
             qr,
             qn,
@@ -131,10 +127,10 @@ fn seek(
             true,
         );
     }
-    let mut l = [0u64; 128];
-    let mut r = [0u64; 128];
+    let mut l = [0u64; 64];
+    let mut r = [0u64; 64];
     let mut at = 0;
-    while at < 128 * many {
+    while at < search_steps::LAST_PLACE {
         let part = search_steps::fill(
             sa,
             la,
@@ -142,15 +138,18 @@ fn seek(
             sb,
             lb,
             tb,
+            eb,
             z,
-            labels,
-            many,
+            false,
             pl,
             pr,
+            0,
             pn,
             at,
             &mut l,
             &mut r,
+            0,
+            0,
         );
         if seek(
             sa,
@@ -162,8 +161,6 @@ fn seek(
             tb,
             eb,
             z,
-            labels,
-            many,
             &l,
             &r,
             part.count,
@@ -192,22 +189,20 @@ fn leads_on(
     tb: &[u8; 512],
     eb: &[u64; 128],
     z: &[u64; 64],
-    labels: &[u16; 512],
-    many: usize,
     x: u8,
     w: u64,
     more: u8,
-    ql: &[u64; 128],
-    qr: &[u64; 128],
+    ql: &[u64; 64],
+    qr: &[u64; 64],
     qn: usize,
     rest: u8,
     turned: bool,
 ) -> bool
-    requires { ⌜ Seeking (now sa) (now la) (now ta) (now sb) (now tb) (now labels) many 1 qn × (x < 64) × (more ≤ 4) × (rest ≤ 4) × (turned ≡ true → rest ≡ 0) ⌝ }
+    requires { ⌜ Seeking (now sa) (now ta) (now sb) (now tb) 1 qn × (x < 64) × (more ≤ 4) × (rest ≤ 4) × (turned ≡ true → rest ≡ 0) ⌝ }
     ensures { λ r. ⌜ Told (viewOf (now (sa .entry)) (now (la .entry)) (now (ta .entry))) (viewOf (now (sb .entry)) (now (lb .entry)) (now (tb .entry))) (now (z .entry)) (now (ea .entry)) (now (eb .entry)) turned x w more (now (ql .entry)) (now (qr .entry)) qn rest r ⌝ }
 {
-    let mut l = [0u64; 128];
-    let mut r = [0u64; 128];
+    let mut l = [0u64; 64];
+    let mut r = [0u64; 64];
     l[0] = words::only(x);
     r[0] = w;
     seek(
@@ -220,8 +215,6 @@ fn leads_on(
         tb,
         eb,
         z,
-        labels,
-        many,
         &l,
         &r,
         1,
@@ -246,18 +239,16 @@ fn next_link(
     tb: &[u8; 512],
     eb: &[u64; 128],
     z: &[u64; 64],
-    labels: &[u16; 512],
-    many: usize,
     x: u8,
     w: u64,
     more: u8,
-    ql: &[u64; 128],
-    qr: &[u64; 128],
+    ql: &[u64; 64],
+    qr: &[u64; 64],
     qn: usize,
     rest: u8,
     turned: bool,
 ) -> u16
-    requires { ⌜ Seeking (now sa) (now la) (now ta) (now sb) (now tb) (now labels) many 1 qn × (x < 64) × (more < 4) × (rest ≤ 4) × (turned ≡ true → rest ≡ 0) × Ahead (viewOf (now sa) (now la) (now ta)) (viewOf (now sb) (now lb) (now tb)) (now z) (now ea) (now eb) turned x w (more + 1) (now ql) (now qr) qn rest ⌝ }
+    requires { ⌜ Seeking (now sa) (now ta) (now sb) (now tb) 1 qn × (x < 64) × (more < 4) × (rest ≤ 4) × (turned ≡ true → rest ≡ 0) × Ahead (viewOf (now sa) (now la) (now ta)) (viewOf (now sb) (now lb) (now tb)) (now z) (now ea) (now eb) turned x w (more + 1) (now ql) (now qr) qn rest ⌝ }
     ensures { λ r. ⌜ Next (viewOf (now (sa .entry)) (now (la .entry)) (now (ta .entry))) (viewOf (now (sb .entry)) (now (lb .entry)) (now (tb .entry))) (now (z .entry)) (now (ea .entry)) (now (eb .entry)) turned x w more (now (ql .entry)) (now (qr .entry)) qn rest r ⌝ }
 {
     let until = sa[x as usize + 1];
@@ -275,8 +266,6 @@ fn next_link(
             tb,
             eb,
             z,
-            labels,
-            many,
             y,
             o,
             more,
@@ -339,18 +328,16 @@ fn first_path(
     tb: &[u8; 512],
     eb: &[u64; 128],
     z: &[u64; 64],
-    labels: &[u16; 512],
-    many: usize,
     x: u8,
     w: u64,
     more: u8,
-    ql: &[u64; 128],
-    qr: &[u64; 128],
+    ql: &[u64; 64],
+    qr: &[u64; 64],
     qn: usize,
     rest: u8,
     turned: bool,
 ) -> Tail
-    requires { ⌜ Seeking (now sa) (now la) (now ta) (now sb) (now tb) (now labels) many 1 qn × (x < 64) × (more ≤ 4) × (rest ≤ 4) × (turned ≡ true → rest ≡ 0) × Ahead (viewOf (now sa) (now la) (now ta)) (viewOf (now sb) (now lb) (now tb)) (now z) (now ea) (now eb) turned x w more (now ql) (now qr) qn rest ⌝ }
+    requires { ⌜ Seeking (now sa) (now ta) (now sb) (now tb) 1 qn × (x < 64) × (more ≤ 4) × (rest ≤ 4) × (turned ≡ true → rest ≡ 0) × Ahead (viewOf (now sa) (now la) (now ta)) (viewOf (now sb) (now lb) (now tb)) (now z) (now ea) (now eb) turned x w more (now ql) (now qr) qn rest ⌝ }
     ensures { λ r. ⌜ Foremost (viewOf (now (sa .entry)) (now (la .entry)) (now (ta .entry))) (viewOf (now (sb .entry)) (now (lb .entry)) (now (tb .entry))) (now (z .entry)) (now (ea .entry)) (now (eb .entry)) turned x w more (now (ql .entry)) (now (qr .entry)) qn rest r ⌝ }
 {
     if more == 0 {
@@ -370,8 +357,6 @@ fn first_path(
         tb,
         eb,
         z,
-        labels,
-        many,
         x,
         w,
         more - 1,
@@ -393,8 +378,6 @@ fn first_path(
         tb,
         eb,
         z,
-        labels,
-        many,
         y,
         o,
         more - 1,
@@ -457,6 +440,82 @@ pub fn no_pair() -> Pair
 }
 
 // The first two paths of i and j links from x, in the order of the links, first by the first path, whose ends pass a comparison, and that have no
+// counterpart from y. There are some. The second are told by the paths with `rest` links further than the classes of the table q.
+pub fn first_pair(
+    sa: &[u16; 65],
+    la: &[u16; 512],
+    ta: &[u8; 512],
+    ea: &[u64; 128],
+    sb: &[u16; 65],
+    lb: &[u16; 512],
+    tb: &[u8; 512],
+    eb: &[u64; 128],
+    z: &[u64; 64],
+    x: u8,
+    y: u8,
+    i: u8,
+    j: u8,
+    ql: &[u64; 64],
+    qr: &[u64; 64],
+    qn: usize,
+    rest: u8,
+) -> Pair
+    requires { ⌜ Asked (now sa) (now ta) (now sb) (now tb) x y i j × (qn ≤ 64) × (rest ≤ 4) × Ahead (viewOf (now sa) (now la) (now ta)) (viewOf (now sb) (now lb) (now tb)) (now z) (now ea) (now eb) false x (2 ^ y) i (now ql) (now qr) qn rest × StandsFor (viewOf (now sa) (now la) (now ta)) (viewOf (now sb) (now lb) (now tb)) (now z) (now ea) (now eb) x y i j (now ql) (now qr) qn rest ⌝ }
+    ensures { λ r. ⌜ Sought (viewOf (now (sa .entry)) (now (la .entry)) (now (ta .entry))) (viewOf (now (sb .entry)) (now (lb .entry)) (now (tb .entry))) (now (z .entry)) (now (ea .entry)) (now (eb .entry)) x y i j r ⌝ }
+{
+    let partner = words::only(y);
+    let p = first_path(
+        sa,
+        la,
+        ta,
+        ea,
+        sb,
+        lb,
+        tb,
+        eb,
+        z,
+        x,
+        partner,
+        i,
+        ql,
+        qr,
+        qn,
+        rest,
+        false,
+    );
+    let mut l = [0u64; 64];
+    let mut r = [0u64; 64];
+    l[0] = words::only(p.cell);
+    r[0] = p.word;
+    let q = first_path(
+        sa,
+        la,
+        ta,
+        ea,
+        sb,
+        lb,
+        tb,
+        eb,
+        z,
+        x,
+        partner,
+        j,
+        &l,
+        &r,
+        1,
+        0,
+        true,
+    );
+    let first = p.path;
+    let second = q.path;
+    Pair {
+        kind: kind_of(ea, eb, p.cell, p.word, q.cell, q.word),
+        first,
+        second,
+    }
+}
+
+// The first two paths of i and j links from x, in the order of the links, first by the first path, whose ends pass a comparison, and that have no
 // counterpart from y.
 pub fn two_paths(
     sa: &[u16; 65],
@@ -476,12 +535,9 @@ pub fn two_paths(
     requires { ⌜ Asked (now sa) (now ta) (now sb) (now tb) x y i j ⌝ }
     ensures { λ r. ⌜ Sought (viewOf (now (sa .entry)) (now (la .entry)) (now (ta .entry))) (viewOf (now (sb .entry)) (now (lb .entry)) (now (tb .entry))) (now (z .entry)) (now (ea .entry)) (now (eb .entry)) x y i j r ⌝ }
 {
-    let labels = search_steps::labels_of(sa, la);
-    let many = labels.count;
-    let list = labels.list;
     let partner = words::only(y);
-    let mut l = [0u64; 128];
-    let mut r = [0u64; 128];
+    let mut l = [0u64; 64];
+    let mut r = [0u64; 64];
     l[0] = words::only(x);
     r[0] = partner;
     if leads_on(
@@ -494,8 +550,6 @@ pub fn two_paths(
         tb,
         eb,
         z,
-        &list,
-        many,
         x,
         partner,
         i,
@@ -505,57 +559,7 @@ pub fn two_paths(
         j,
         false,
     ) {
-        let p = first_path(
-            sa,
-            la,
-            ta,
-            ea,
-            sb,
-            lb,
-            tb,
-            eb,
-            z,
-            &list,
-            many,
-            x,
-            partner,
-            i,
-            &l,
-            &r,
-            1,
-            j,
-            false,
-        );
-        l[0] = words::only(p.cell);
-        r[0] = p.word;
-        let q = first_path(
-            sa,
-            la,
-            ta,
-            ea,
-            sb,
-            lb,
-            tb,
-            eb,
-            z,
-            &list,
-            many,
-            x,
-            partner,
-            j,
-            &l,
-            &r,
-            1,
-            0,
-            true,
-        );
-        let first = p.path;
-        let second = q.path;
-        return Pair {
-            kind: kind_of(ea, eb, p.cell, p.word, q.cell, q.word),
-            first,
-            second,
-        };
+        return first_pair(sa, la, ta, ea, sb, lb, tb, eb, z, x, y, i, j, &l, &r, 1, j);
     }
     no_pair()
 }

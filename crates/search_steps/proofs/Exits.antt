@@ -1,6 +1,6 @@
 -- What each turn and each way out of the functions shows. Every number that the code computed is a variable here, with what is known of it, so
 -- that `search` finds it in a need's record.
-use mathlib.Core.Bool.{true, false, So, false≢true}
+use mathlib.Core.Bool.{Bool, true, false, So, false≢true}
 use mathlib.Core.Path.{_≡_, refl, sym, ap, _∙_}
 use mathlib.Core.Logic.{_⊎_, inl, inr, ⊎-elim}
 use mathlib.Core.List.{List}
@@ -14,15 +14,15 @@ use lib.Seq.{getD-set-same, getD-set-other}
 use Rattle.theory.specs.TestLaws.{never, le-or-lt, and-iff, or-iff, not-iff}
 use Rattle.words.specs.Words.{bit, IsLowest, IsWithout}
 use Rattle.words.specs.Laws.{bit-zero, bit-or, bit-without}
-use Rattle.search_links.specs.Hops.{View, labelOf, toOf, total, hopsOf, Opened}
-use Rattle.search_links.specs.Sets.{reached, imageOf, rowAt}
+use Rattle.search_links.specs.Hops.{View, labelOf, toOf, hopsOf, Opened}
+use Rattle.search_links.specs.Sets.{reached, imageOf, rowAt, seenAs}
 use Rattle.search_tables.specs.declared.Grown.{Grown}
-use Rattle.search_tables.specs.Tips.{Has, Covered, TableRoom, Grew}
-use Rattle.search_tables.specs.Laws.{equal-or, covered-by-has, covered-trans}
+use Rattle.search_tables.specs.Tips.{Has, Covered, TableRoom, Untouched, cutAs, Grew}
+use Rattle.search_tables.specs.Laws.{equal-or, covered-by-has, covered-trans, untouched-refl, untouched-trans}
 use Rattle.search_steps.specs.declared.Stretch.{Stretch}
 use Rattle.search_steps.specs.declared.Part.{Part}
 use Rattle.search_steps.specs.Paths.{stepWord}
-use Rattle.search_steps.specs.Tables.{Beyond, LabelPlace, Named, Unites, Rowed, cellsBy, setBy, Stretched, Moves, slot, Filled}
+use Rattle.search_steps.specs.Tables.{Beyond, Bounded, everyLabel, LeastLabel, NextLabel, Unites, Rowed, cellsBy, setBy, Stretched, Moves, slot, lastPlace, Passed, Begins, Filled}
 use Rattle.search_steps.specs.Laws.{spread-agrees, leaves-low, image-in, image-out}
 
 -- what is below the next number is at most this one
@@ -34,61 +34,99 @@ pub step-is : (u : View) (z : List ℕ) (w a y n m : ℕ) → n ≡ imageOf u w 
 unfolding stepWord
 step-is u z w a y n m dn dm = dm ∙ rw dn
 
--- ---- labels: each link passed has its label in the list
-pub record Naming (labels list : List ℕ) (count k : ℕ) : Type 0 where
-  pub long : length list ≡ 512
-  pub few : count ≤ k
-  pub each : (j : ℕ) → j < k → (i : ℕ) × (i < count) × (getD list i 0 ≡ getD labels j 0)
+-- ---- labels
+pub opened-bounded : (starts to : List ℕ) → Opened starts to → Bounded starts
+opened-bounded starts to o = record { each = λ x l. omega (arith, o .few, o .within x l) }
 
-module _ (labels : List ℕ) where
-  pub naming-start : (list : List ℕ) → length list ≡ 512 → Naming labels list 0 0
-  naming-start list l = record { long = l; few = omega arith; each = λ j m. absurd (omega arith) }
+pub until-bounded : (starts : List ℕ) (x e : ℕ) → Bounded starts → x < 64 → e ≡ getD starts (x + 1) 0 → e ≤ 512
+until-bounded starts x e b l d = omega (arith, b .each (x + 1) (omega arith))
 
-  module _ (list : List ℕ) (count k : ℕ) (g : Naming labels list count k) where
-    module _ (a : ℕ) (d : a ≡ getD labels k 0) where
-      pub naming-old : (p : ℕ) → LabelPlace list count a p → (p ≡ count → ⊥) → Naming labels list count (k + 1)
-      naming-old p h n = record {
-        long = g .long;
-        few = omega (arith, g .few);
-        each = λ j m. ⊎-elim
-            (λ q. (p, below, rw q (h .there below ∙ d)))
-            (λ l. g .each j l)
-            (eq-or-lt-of-le (at-most k j m));
-      }
-        where
-          below : p < count
-          below = ⊎-elim (λ q. absurd (n q)) (λ l. l) (eq-or-lt-of-le (h .most))
+-- the links out of a node: of those passed, the smallest label is kept
+pub record Lessening (starts labels : List ℕ) (x least best out k : ℕ) : Type 0 where
+  pub onward : least ≤ best → least ≤ out
+  pub most : out ≤ best
+  pub none : (j : ℕ) → getD starts x 0 ≤ j → j < k → least ≤ getD labels j 0 → (out ≤ getD labels j 0) × (out < everyLabel)
 
-      pub naming-new : k < 512 → Naming labels (set list count a) (count + 1) (k + 1)
-      naming-new l = record {
-        long = length-set list count a ∙ g .long;
-        few = omega (arith, g .few);
-        each = λ j m. ⊎-elim
-            (λ q. (count, omega arith, rw q (getD-set-same list count a 0 (omega (arith, g .long, g .few)) ∙ d)))
-            (λ b. let (i, o, e) = g .each j b in (i, omega arith, getD-set-other list count i a 0 (λ q. omega arith) ∙ e))
-            (eq-or-lt-of-le (at-most k j m));
+module _ (starts labels : List ℕ) (x least best : ℕ) where
+  pub lessening-start : (k : ℕ) → k ≡ getD starts x 0 → Lessening starts labels x least best best k
+  lessening-start k d = record { onward = λ l. l; most = omega arith; none = λ j a b. absurd (omega arith) }
+
+  module _ (out k : ℕ) (g : Lessening starts labels x least best out k) where
+    pub lessening-end : (e : ℕ) → e ≡ getD starts (x + 1) 0 → e ≤ k → LeastLabel starts labels x least best out
+    lessening-end e d l = record { onward = g .onward; most = g .most; none = λ j a b. g .none j a (omega arith) }
+
+    module _ (label : ℕ) (d : label ≡ getD labels k 0) (small : label < everyLabel) where
+      at-this : (j : ℕ) → j ≡ k → getD labels j 0 ≡ label
+      at-this j q = ap (λ (i : ℕ). getD labels i 0) q ∙ sym d
+
+      -- the label is no smaller, or does not count
+      pub lessening-pass : (least ≤ label → out ≤ label) → Lessening starts labels x least best out (k + 1)
+      lessening-pass h = record {
+        onward = g .onward;
+        most = g .most;
+        none = λ j a b c. ⊎-elim (λ q. (let e = at-this j q in let m = h (omega (arith, e)) in (omega (arith, e), omega arith))) (λ s. g .none j a s c) (eq-or-lt-of-le (at-most k j b));
       }
 
-    pub naming-end : (starts : List ℕ) (e : ℕ) → e ≡ total starts → e ≤ 512 → e ≤ k → k ≤ e → Named starts labels list count
-    naming-end starts e d f l m = record {
-      few = omega (arith, g .few);
-      each = λ j b. g .each j (omega arith);
+      pub lessening-take : least ≤ label → label < out → Lessening starts labels x least best label (k + 1)
+      lessening-take h l = record {
+        onward = λ _. h;
+        most = omega (arith, g .most);
+        none = λ j a b c. ⊎-elim (λ q. (omega (arith, at-this j q), small)) (λ s. let (m, o) = g .none j a s c in (omega arith, small)) (eq-or-lt-of-le (at-most k j b));
+      }
+
+-- the nodes: of each, it is still to come, or its labels are none between
+pub record Labelling (starts labels : List ℕ) (cells least out left : ℕ) : Type 0 where
+  pub small : left < 2 ^ 64
+  pub onward : least ≤ out
+  pub most : out ≤ everyLabel
+  pub none : (x k : ℕ) → x < 64 → So (bit cells x) → getD starts x 0 ≤ k → k < getD starts (x + 1) 0 → least ≤ getD labels k 0
+      → So (bit left x) ⊎ ((out ≤ getD labels k 0) × (out < everyLabel))
+
+module _ (starts labels : List ℕ) (cells least : ℕ) where
+  pub labelling-start : least ≤ everyLabel → cells < 2 ^ 64 → Labelling starts labels cells least everyLabel cells
+  labelling-start l m = record { small = m; onward = l; most = omega arith; none = λ x k a i b c e. inl i }
+
+  module _ (out left : ℕ) (g : Labelling starts labels cells least out left) where
+    pub labelling-end : left ≡ 0 → NextLabel starts labels cells least out
+    labelling-end e = record {
+      onward = g .onward;
+      most = g .most;
+      none = λ x k a i b c h. ⊎-elim (λ j. never (sym (bit-zero x) ∙ rw e at j)) (λ q. q) (g .none x k a i b c h);
     }
 
--- ---- sets are united
-module _ (sets : List ℕ) where
-  pub union-start : (out : ℕ) → Unites sets 0 out
-  union-start out = record { each = λ e x l. absurd (omega arith) }
+    pub labelling-next : (x out′ left′ : ℕ) → IsLowest left x → IsWithout left x left′ → LeastLabel starts labels x least out out′
+        → Labelling starts labels cells least out′ left′
+    labelling-next x out′ left′ low off f = record {
+      small = omega (arith, off .less, g .small);
+      onward = f .onward (g .onward);
+      most = omega (arith, f .most, g .most);
+      none = λ y k a i b c h. each y k a i b c h (equal-or y x);
+    }
+      where
+        each : (y k : ℕ) → y < 64 → So (bit cells y) → getD starts y 0 ≤ k → k < getD starts (y + 1) 0 → least ≤ getD labels k 0 → (y ≡ x) ⊎ (y ≡ x → ⊥)
+            → So (bit left′ y) ⊎ ((out′ ≤ getD labels k 0) × (out′ < everyLabel))
+        each y k a i b c h e =
+            ⊎-elim
+            (λ q. inr (f .none k (rw q at b) (rw q at c) h))
+            (λ n. ⊎-elim
+            (λ j. inl (ap (λ (w : ℕ). bit w y) (off .is) ∙ bit-without left x y (low .there) ∙ and-iff _ _ .1 (j, not-iff _ .1 (λ t. n (sym (eqb-true x y t))))))
+            (λ (l, m). inr (omega (arith, f .most), omega (arith, f .most)))
+            (g .none y k a i b c h)) e
 
-  pub union-next : (n out out′ : ℕ) → Unites sets n out → out′ ≡ bitOr out (getD sets n 0) → Unites sets (n + 1) out′
+-- ---- sets are united
+module _ (sets : List ℕ) (first : ℕ) where
+  pub union-start : (out : ℕ) → Unites sets first first out
+  union-start out = record { each = λ e x a l. absurd (omega arith) }
+
+  pub union-next : (n out out′ : ℕ) → Unites sets first n out → out′ ≡ bitOr out (getD sets n 0) → Unites sets first (n + 1) out′
   union-next n out out′ u d = record {
-    each = λ e x l i.
+    each = λ e x a l i.
         ap (λ (w : ℕ). bit w x) d ∙ bit-or out (getD sets n 0) x
-        ∙ or-iff (bit out x) (bit (getD sets n 0) x) .1 (⊎-elim (λ q. inr (rw q at i)) (λ s. inl (u .each e x s i)) (eq-or-lt-of-le (at-most n e l)));
+        ∙ or-iff (bit out x) (bit (getD sets n 0) x) .1 (⊎-elim (λ q. inr (rw q at i)) (λ s. inl (u .each e x a s i)) (eq-or-lt-of-le (at-most n e l)));
   }
 
-  pub union-end : (n e out : ℕ) → Unites sets e out → n ≤ e → Unites sets n out
-  union-end n e out u l = record { each = λ j x m. u .each j x (omega arith) }
+  pub union-end : (n e out : ℕ) → Unites sets first e out → n ≤ e → Unites sets first n out
+  union-end n e out u l = record { each = λ j x a m. u .each j x a (omega arith) }
 
 -- ---- rows are put into a table of rows: of each node, it is still to come, or its row is there
 pub record Rowing (v : View) (cells a base : ℕ) (rows₀ rows : List ℕ) (left : ℕ) : Type 0 where
@@ -128,19 +166,23 @@ module _ (v : View) (cells a base : ℕ) (rows₀ : List ℕ) where
               (g .each y l i)) h
 
 -- ---- the classes of a table are gone through for one label: the other table covers the tips by those passed
-pub record Stretching (z rows ls rs : List ℕ) (n from : ℕ) (ls₀ rs₀ : List ℕ) (count : ℕ) (ls′ rs′ : List ℕ) (total e : ℕ) : Type 0 where
+pub record Stretching (z ends : List ℕ) (wide : Bool) (rows ls rs : List ℕ) (n from : ℕ) (ls₀ rs₀ : List ℕ) (base count : ℕ) (ls′ rs′ : List ℕ) (total e : ℕ) : Type 0 where
   pub room : TableRoom ls′ rs′ total
+  pub low : Untouched base ls₀ rs₀ ls′ rs′
+  pub least : base ≤ total
   pub onward : from ≤ e
   pub fresh : e ≡ from → total ≡ count
   pub sound : (y o : ℕ) → Has ls′ rs′ total y o
-      → Has ls₀ rs₀ count y o ⊎ ((e : ℕ) × (e < n) × So (bit (cellsBy rows ls e) y) × (bitAnd (setBy rows rs e) (getD z y 0) ≡ o))
+      → Has ls₀ rs₀ count y o ⊎ ((e : ℕ) × (from ≤ e) × (e < n) × So (bit (cellsBy rows ls e) y) × (cutAs ends wide z (setBy rows rs e) y ≡ o))
   pub kept : (y o : ℕ) → Has ls₀ rs₀ count y o → Covered ls′ rs′ total y o
-  pub whole : (j y : ℕ) → from ≤ j → j < e → y < 64 → So (bit (cellsBy rows ls j) y) → Covered ls′ rs′ total y (bitAnd (setBy rows rs j) (getD z y 0))
+  pub whole : (j y : ℕ) → from ≤ j → j < e → y < 64 → So (bit (cellsBy rows ls j) y) → Covered ls′ rs′ total y (cutAs ends wide z (setBy rows rs j) y)
 
-module _ (z rows ls rs : List ℕ) (n from : ℕ) (ls₀ rs₀ : List ℕ) (count : ℕ) where
-  pub stretching-start : TableRoom ls₀ rs₀ count → Stretching z rows ls rs n from ls₀ rs₀ count ls₀ rs₀ count from
-  stretching-start r = record {
+module _ (z ends : List ℕ) (wide : Bool) (rows ls rs : List ℕ) (n from : ℕ) (ls₀ rs₀ : List ℕ) (base count : ℕ) where
+  pub stretching-start : TableRoom ls₀ rs₀ count → base ≤ count → Stretching z ends wide rows ls rs n from ls₀ rs₀ base count ls₀ rs₀ count from
+  stretching-start r b = record {
     room = r;
+    low = untouched-refl base ls₀ rs₀;
+    least = b;
     onward = omega arith;
     fresh = λ _. refl;
     sound = λ y o h. inl h;
@@ -148,11 +190,13 @@ module _ (z rows ls rs : List ℕ) (n from : ℕ) (ls₀ rs₀ : List ℕ) (coun
     whole = λ j y a b. absurd (omega arith);
   }
 
-  module _ (ls′ rs′ : List ℕ) (total e : ℕ) (f : Stretching z rows ls rs n from ls₀ rs₀ count ls′ rs′ total e) where
+  module _ (ls′ rs′ : List ℕ) (total e : ℕ) (f : Stretching z ends wide rows ls rs n from ls₀ rs₀ base count ls′ rs′ total e) where
     pub stretching-end : n ≤ e → (r : Stretch) → r .count ≡ total → r .upto ≡ e → r .full ≡ false
-        → Stretched z rows ls rs n from ls₀ rs₀ count ls′ rs′ r
+        → Stretched z ends wide rows ls rs n from ls₀ rs₀ base count ls′ rs′ r
     stretching-end l r dc du df = record {
       room = rw dc (f .room);
+      low = f .low;
+      least = omega (arith, f .least);
       sound = rw dc (f .sound);
       kept = rw dc (f .kept);
       whole = λ j y a b. rw dc (f .whole j y a (rw du at b));
@@ -161,10 +205,10 @@ module _ (z rows ls rs : List ℕ) (n from : ℕ) (ls₀ rs₀ : List ℕ) (coun
       all = λ _. omega arith;
     }
 
-    module _ (cells s : ℕ) (dc : cells ≡ cellsBy rows ls e) (ds : s ≡ setBy rows rs e) (l : e < n) (ls″ rs″ : List ℕ) (g : Grown) (w : Grew z ls′ rs′ total cells s ls″ rs″ g) where
+    module _ (cells s : ℕ) (dc : cells ≡ cellsBy rows ls e) (ds : s ≡ setBy rows rs e) (l : e < n) (ls″ rs″ : List ℕ) (g : Grown) (w : Grew z ends wide ls′ rs′ base total cells s ls″ rs″ g) where
       on-sound : (y o : ℕ) → Has ls″ rs″ (g .count) y o
-          → Has ls₀ rs₀ count y o ⊎ ((e : ℕ) × (e < n) × So (bit (cellsBy rows ls e) y) × (bitAnd (setBy rows rs e) (getD z y 0) ≡ o))
-      on-sound y o h = ⊎-elim (λ h. f .sound y o h) (λ (i, q). inr (e, l, rw (← dc) i, rw (← ds) q)) (w .sound y o h)
+          → Has ls₀ rs₀ count y o ⊎ ((e : ℕ) × (from ≤ e) × (e < n) × So (bit (cellsBy rows ls e) y) × (cutAs ends wide z (setBy rows rs e) y ≡ o))
+      on-sound y o h = ⊎-elim (λ h. f .sound y o h) (λ (i, q). inr (e, f .onward, l, rw (← dc) i, rw (← ds) q)) (w .sound y o h)
 
       -- what was covered before is covered still
       still : (y o : ℕ) → Covered ls′ rs′ total y o → Covered ls″ rs″ (g .count) y o
@@ -173,10 +217,15 @@ module _ (z rows ls rs : List ℕ) (n from : ℕ) (ls₀ rs₀ : List ℕ) (coun
       on-kept : (y o : ℕ) → Has ls₀ rs₀ count y o → Covered ls″ rs″ (g .count) y o
       on-kept y o h = still y o (f .kept y o h)
 
+      on-low : Untouched base ls₀ rs₀ ls″ rs″
+      on-low = untouched-trans base ls₀ rs₀ ls′ rs′ (f .low) ls″ rs″ (w .low)
+
       pub stretching-full : g .full ≡ true → (r : Stretch) → r .count ≡ g .count → r .upto ≡ e → r .full ≡ true
-          → Stretched z rows ls rs n from ls₀ rs₀ count ls″ rs″ r
+          → Stretched z ends wide rows ls rs n from ls₀ rs₀ base count ls″ rs″ r
       stretching-full t r dn du df = record {
         room = rw dn (w .room);
+        low = on-low;
+        least = omega (arith, w .least);
         sound = rw dn on-sound;
         kept = rw dn on-kept;
         whole = λ j y a b c d. rw dn (still _ _ (f .whole j y a (rw du at b) c d));
@@ -185,9 +234,11 @@ module _ (z rows ls rs : List ℕ) (n from : ℕ) (ls₀ rs₀ : List ℕ) (coun
         all = λ t. absurd (false≢true (sym t ∙ df));
       }
 
-      pub stretching-next : g .full ≡ false → Stretching z rows ls rs n from ls₀ rs₀ count ls″ rs″ (g .count) (e + 1)
+      pub stretching-next : g .full ≡ false → Stretching z ends wide rows ls rs n from ls₀ rs₀ base count ls″ rs″ (g .count) (e + 1)
       stretching-next t = record {
         room = w .room;
+        low = on-low;
+        least = w .least;
         onward = omega (arith, f .onward);
         fresh = λ q. absurd (omega (arith, f .onward));
         sound = on-sound;
@@ -198,115 +249,176 @@ module _ (z rows ls rs : List ℕ) (n from : ℕ) (ls₀ rs₀ : List ℕ) (coun
             (eq-or-lt-of-le (at-most e j b));
       }
         where
-          new : (y : ℕ) → y < 64 → So (bit (cellsBy rows ls e) y) → Covered ls″ rs″ (g .count) y (bitAnd (setBy rows rs e) (getD z y 0))
+          new : (y : ℕ) → y < 64 → So (bit (cellsBy rows ls e) y) → Covered ls″ rs″ (g .count) y (cutAs ends wide z (setBy rows rs e) y)
           new y m i = rw ds at (w .whole t y m (rw dc i))
 
 -- ---- the rows of a label, of both books, in one table
 module _ (v u : View) (here there a : ℕ) (rows rows₁ rows₂ : List ℕ) (f : Rowed v here a 0 rows rows₁) (g : Rowed u there a 64 rows₁ rows₂) where
   -- which has the images of the sets within those that the rows were put in for
-  cells-are : (ls : List ℕ) (n e : ℕ) → Unites ls n here → e < n → cellsBy rows₂ ls e ≡ imageOf v (getD ls e 0) a
-  cells-are ls n e w l =
+  cells-are : (ls : List ℕ) (first n e : ℕ) → Unites ls first n here → first ≤ e → e < n → cellsBy rows₂ ls e ≡ imageOf v (getD ls e 0) a
+  cells-are ls first n e w b l =
       spread-agrees (rowAt rows₂ 0) (λ x. reached (hopsOf v x) a) (getD ls e 0)
-      (λ x m i. g .kept (64 * 0 + x) (inl (omega arith)) ∙ f .each x m (w .each e x l i))
+      (λ x m i. g .kept (64 * 0 + x) (inl (omega arith)) ∙ f .each x m (w .each e x b l i))
 
-  set-is : (rs : List ℕ) (n e : ℕ) → Unites rs n there → e < n → setBy rows₂ rs e ≡ imageOf u (getD rs e 0) a
-  set-is rs n e w l =
-      spread-agrees (rowAt rows₂ 1) (λ x. reached (hopsOf u x) a) (getD rs e 0) (λ x m i. g .each x m (w .each e x l i))
+  set-is : (rs : List ℕ) (first n e : ℕ) → Unites rs first n there → first ≤ e → e < n → setBy rows₂ rs e ≡ imageOf u (getD rs e 0) a
+  set-is rs first n e w b l =
+      spread-agrees (rowAt rows₂ 1) (λ x. reached (hopsOf u x) a) (getD rs e 0) (λ x m i. g .each x m (w .each e x b l i))
 
 -- below a number, or not
 or-not : (m n : ℕ) → (m < n) ⊎ (n ≤ m)
 or-not m n = ⊎-elim (λ l. inr l) (λ l. inl l) (le-or-lt n m)
 
--- ---- a part is filled: it covers the tips by the classes and labels passed
-pub record Filling (v u : View) (z labels : List ℕ) (many : ℕ) (ls rs : List ℕ) (n at : ℕ) (ls′ rs′ : List ℕ) (count i from : ℕ) : Type 0 where
-  pub room : TableRoom ls′ rs′ count
-  pub begun : at ≤ slot from i
-  pub few : from < 128
-  pub fresh : slot from i ≡ at → count ≡ 0
-  pub sound : (y o : ℕ) → Has ls′ rs′ count y o → Beyond v u z ls rs n y o
-  pub whole : (e j x k : ℕ) → Moves v labels many ls n e j x k → at ≤ slot e j → slot e j < slot from i
-      → Covered ls′ rs′ count (toOf v k) (stepWord u z (getD rs e 0) (labelOf v k) (toOf v k))
+-- ---- where a label is begun
+module _ (first a at : ℕ) where
+  pub begins-there : a ≡ at / 64 → first < at % 64 → Begins first a at (at % 64)
+  begins-there d l = record { least = omega arith; few = λ _. omega arith; reaches = λ _. omega arith; most = λ e b m. omega arith }
 
-module _ (v u : View) (z labels : List ℕ) (many : ℕ) (ls rs : List ℕ) (n at : ℕ) where
-  pub filling-start : (ls₀ rs₀ : List ℕ) (i from : ℕ) → TableRoom ls₀ rs₀ 0 → i ≡ at / 128 → from ≡ at % 128 → Filling v u z labels many ls rs n at ls₀ rs₀ 0 i from
-  filling-start ls₀ rs₀ i from r di df = record {
+  pub begins-first : (a ≡ at / 64 → at % 64 ≤ first) → Begins first a at first
+  begins-first h = record { least = omega arith; few = λ b. b; reaches = λ l. ⊎-elim (λ q. omega (arith, h (sym q))) (λ s. omega arith) (eq-or-lt-of-le l); most = λ e b m. b }
+
+-- ---- a table is filled: it covers the tips by the classes and labels passed
+pub record Filling (v u : View) (z ends : List ℕ) (wide : Bool) (ls rs : List ℕ) (first n at : ℕ) (ls₀ rs₀ : List ℕ) (base count : ℕ) (ls′ rs′ : List ℕ) (total a from : ℕ) : Type 0 where
+  pub room : TableRoom ls′ rs′ total
+  pub low : Untouched base ls₀ rs₀ ls′ rs′
+  pub least : base ≤ total
+  pub since : first ≤ from
+  pub onward : at ≤ slot from a
+  pub begun : at < 64 * (a + 1)
+  pub most : a ≤ everyLabel
+  pub fresh : (at < slot from a) ⊎ (total ≡ count)
+  pub sound : (y o : ℕ) → Has ls′ rs′ total y o → Has ls₀ rs₀ count y o ⊎ ((w : ℕ) × Beyond v u z ls rs n y w × (seenAs ends wide w ≡ o))
+  pub kept : (y o : ℕ) → Has ls₀ rs₀ count y o → Covered ls′ rs′ total y o
+  pub whole : (e x k : ℕ) → Moves v ls first n e x k → at ≤ slot e (labelOf v k) → slot e (labelOf v k) < slot from a
+      → Covered ls′ rs′ total (toOf v k) (seenAs ends wide (stepWord u z (getD rs e 0) (labelOf v k) (toOf v k)))
+  pub ended : a ≡ everyLabel → (e x k : ℕ) → Moves v ls first n e x k → labelOf v k < everyLabel
+
+module _ (v u : View) (z ends : List ℕ) (wide : Bool) (ls rs : List ℕ) (first n at : ℕ) (ls₀ rs₀ : List ℕ) (base count : ℕ) (few : n ≤ 64) (here : ℕ) (wl : Unites ls first n here) where
+  -- a link out of a class has none of the labels between
+  none-between : (least a : ℕ) → NextLabel (v .starts) (v .labels) here least a → (e x k : ℕ) → Moves v ls first n e x k → least ≤ labelOf v k
+      → (a ≤ labelOf v k) × (a < everyLabel)
+  none-between least a h e x k m l =
+      h .none x k (m .cell) (wl .each e x (m .least) (m .class) (m .inside)) (m .leaves .from) (m .leaves .until) l
+
+  pub filling-start : TableRoom ls₀ rs₀ count → base ≤ count → at ≤ lastPlace → (d a from : ℕ) → d ≡ at / 64 → NextLabel (v .starts) (v .labels) here d a → Begins first a at from
+      → Filling v u z ends wide ls rs first n at ls₀ rs₀ base count ls₀ rs₀ count a from
+  filling-start r b l d a from dd h s = record {
     room = r;
-    begun = omega arith;
-    few = omega arith;
-    fresh = λ _. refl;
-    sound = λ y o h. absurd (omega (arith, h .below));
-    whole = λ e j x k m a b. absurd (omega arith);
+    low = untouched-refl base ls₀ rs₀;
+    least = b;
+    since = s .least;
+    onward = s .reaches (omega (arith, h .onward));
+    begun = omega (arith, h .onward);
+    most = h .most;
+    fresh = inr refl;
+    sound = λ y o g. inl g;
+    kept = covered-by-has ls₀ rs₀ count;
+    whole = λ e x k m c g. absurd (nothing e x k m c g);
+    ended = λ q e x k m. ⊎-elim (λ g. absurd (omega (arith, none-between d a h e x k m g .1))) (λ g. omega arith) (le-or-lt d (labelOf v k));
   }
+    where
+      nothing : (e x k : ℕ) → Moves v ls first n e x k → at ≤ slot e (labelOf v k) → slot e (labelOf v k) < slot from a → ⊥
+      nothing e x k m c g =
+          let i : d ≤ labelOf v k = omega (arith, m .class) in
+          let j = none-between d a h e x k m i .0 in
+          ⊎-elim (λ q. omega (arith, s .most e (m .least) (rw q c))) (λ o. omega (arith, m .class, s .few (omega (arith, m .least, m .class)))) (eq-or-lt-of-le j)
 
-  module _ (ls′ rs′ : List ℕ) (count i from : ℕ) (f : Filling v u z labels many ls rs n at ls′ rs′ count i from) (room : n ≤ 128) where
-    pub filling-end : many ≤ i → (r : Part) → r .count ≡ count → r .next ≡ 128 * many → Filled v u z labels many ls rs n at ls′ rs′ r
-    filling-end l r dc dn = record {
+  module _ (ls′ rs′ : List ℕ) (total a from : ℕ) (f : Filling v u z ends wide ls rs first n at ls₀ rs₀ base count ls′ rs′ total a from) where
+    pub filling-end : everyLabel ≤ a → (r : Part) → r .count ≡ total → r .next ≡ lastPlace → Filled v u z ends wide ls rs first n at ls₀ rs₀ base count ls′ rs′ r
+    filling-end l r dc dx = record {
       room = rw dc (f .room);
+      low = f .low;
+      least = omega (arith, f .least);
       sound = rw dc (f .sound);
-      whole = λ e j x k m a b. rw dc (f .whole e j x k m a (omega (arith, m .class, m .label)));
-      further = λ m. omega arith;
+      kept = rw dc (f .kept);
+      whole = λ e x k m b _. rw dc (f .whole e x k m b (omega (arith, f .ended (omega (arith, f .most)) e x k m, m .class, f .most, m .least, f .since)));
+      further = λ _ m. omega arith;
       most = omega arith;
     }
 
-    module _ (here there : ℕ) (wl : Unites ls n here) (wr : Unites rs n there) (rows rows₁ rows₂ : List ℕ) (a : ℕ) (da : a ≡ getD labels i 0)
-        (fa : Rowed v here a 0 rows rows₁) (fb : Rowed u there a 64 rows₁ rows₂) (l : i < many)
-        (ls″ rs″ : List ℕ) (p : Stretch) (w : Stretched z rows₂ ls rs n from ls′ rs′ count ls″ rs″ p) where
-      label-sound : (y o : ℕ) → Has ls″ rs″ (p .count) y o → Beyond v u z ls rs n y o
+    module _ (there : ℕ) (wr : Unites rs first n there) (rows rows₁ rows₂ : List ℕ) (a′ : ℕ) (da : a′ ≡ a)
+        (fa : Rowed v here a′ 0 rows rows₁) (fb : Rowed u there a′ 64 rows₁ rows₂) (l : a < everyLabel)
+        (ls″ rs″ : List ℕ) (p : Stretch) (w : Stretched z ends wide rows₂ ls rs n from ls′ rs′ base total ls″ rs″ p) where
+      label-sound : (y o : ℕ) → Has ls″ rs″ (p .count) y o → Has ls₀ rs₀ count y o ⊎ ((w : ℕ) × Beyond v u z ls rs n y w × (seenAs ends wide w ≡ o))
       unfolding stepWord
       label-sound y o h =
           ⊎-elim (f .sound y o)
-          (λ (e, b, i, q).
-          let t = image-out v (getD ls e 0) a y (h .cell) (rw (cells-are v u here there a rows rows₁ rows₂ fa fb ls n e wl b) at i) in
-          record {
-            cell = t .node;
-            word = getD rs e 0;
-            link = t .link;
-            has = record { class = e; below = b; cell = t .low; inside = t .inside; word = refl };
-            leads = record { leaves = t .leaves; to = t .to; word = rw (t .label) (rw (set-is v u here there a rows rows₁ rows₂ fa fb rs n e wr b) at q) };
-          })
+          (λ (e, c, b, i, q).
+          let s : first ≤ e = omega (arith, f .since) in
+          let t = image-out v (getD ls e 0) a′ y (h .cell) (rw (cells-are v u here there a′ rows rows₁ rows₂ fa fb ls first n e wl s b) at i) in
+          inr (
+            stepWord u z (getD rs e 0) (labelOf v (t .link)) y,
+            record {
+              cell = t .node;
+              word = getD rs e 0;
+              link = t .link;
+              has = record { class = e; below = b; cell = t .low; inside = t .inside; word = refl };
+              leads = record { leaves = t .leaves; to = t .to; word = refl };
+            },
+            rw (t .label) (rw (set-is v u here there a′ rows rows₁ rows₂ fa fb rs first n e wr s b) at q),
+          ))
           (w .sound y o h)
 
       -- what was covered before this label is covered after it
-      later : (y o : ℕ) → Covered ls′ rs′ count y o → Covered ls″ rs″ (p .count) y o
-      later = covered-trans ls′ rs′ count ls″ rs″ (p .count) (w .kept)
+      later : (y o : ℕ) → Covered ls′ rs′ total y o → Covered ls″ rs″ (p .count) y o
+      later = covered-trans ls′ rs′ total ls″ rs″ (p .count) (w .kept)
+
+      label-low : Untouched base ls₀ rs₀ ls″ rs″
+      label-low = untouched-trans base ls₀ rs₀ ls′ rs′ (f .low) ls″ rs″ (w .low)
 
       module _ (o : Opened (v .starts) (v .to)) where
         -- the tips by this label and the classes from `from` up to p .upto
-        label-whole : (e x k : ℕ) → Moves v labels many ls n e i x k → from ≤ e → e < p .upto
-            → Covered ls″ rs″ (p .count) (toOf v k) (stepWord u z (getD rs e 0) (labelOf v k) (toOf v k))
+        label-whole : (e x k : ℕ) → Moves v ls first n e x k → labelOf v k ≡ a → from ≤ e → e < p .upto
+            → Covered ls″ rs″ (p .count) (toOf v k) (seenAs ends wide (stepWord u z (getD rs e 0) (labelOf v k) (toOf v k)))
         unfolding stepWord
-        label-whole e x k m b c =
-            let q : labelOf v k ≡ a = m .named ∙ sym da in
-            rw (q, ← set-is v u here there a rows rows₁ rows₂ fa fb rs n e wr (m .class))
+        label-whole e x k m g b c =
+            let q : labelOf v k ≡ a′ = g ∙ sym da in
+            rw (q, ← set-is v u here there a′ rows rows₁ rows₂ fa fb rs first n e wr (m .least) (m .class))
             (w .whole e (toOf v k) b c (leaves-low v o x k (m .cell) (m .leaves))
-            (rw (cells-are v u here there a rows rows₁ rows₂ fa fb ls n e wl (m .class), ← q) (image-in v o x k (m .cell) (m .leaves) (getD ls e 0) (m .inside))))
+            (rw (cells-are v u here there a′ rows rows₁ rows₂ fa fb ls first n e wl (m .least) (m .class), ← q) (image-in v o x k (m .cell) (m .leaves) (getD ls e 0) (m .inside))))
 
         -- and those by the labels and classes passed before
-        whole-upto : (e j x k : ℕ) → Moves v labels many ls n e j x k → at ≤ slot e j → slot e j < slot from i ⊎ ((j ≡ i) × (from ≤ e) × (e < p .upto))
-            → Covered ls″ rs″ (p .count) (toOf v k) (stepWord u z (getD rs e 0) (labelOf v k) (toOf v k))
-        whole-upto e j x k m b h = ⊎-elim (λ s. later _ _ (f .whole e j x k m b s)) (λ (q, s, t). label-whole e x k (rw q at m) s t) h
+        whole-upto : (e x k : ℕ) → Moves v ls first n e x k → at ≤ slot e (labelOf v k)
+            → slot e (labelOf v k) < slot from a ⊎ ((labelOf v k ≡ a) × (from ≤ e) × (e < p .upto))
+            → Covered ls″ rs″ (p .count) (toOf v k) (seenAs ends wide (stepWord u z (getD rs e 0) (labelOf v k) (toOf v k)))
+        whole-upto e x k m b h = ⊎-elim (λ s. later _ _ (f .whole e x k m b s)) (λ (q, s, t). label-whole e x k m q s t) h
 
-        pub filling-full : p .full ≡ true → (r : Part) → r .count ≡ p .count → r .next ≡ 128 * i + p .upto → Filled v u z labels many ls rs n at ls″ rs″ r
+        pub filling-full : p .full ≡ true → (r : Part) → r .count ≡ p .count → r .next ≡ 64 * a + p .upto → Filled v u z ends wide ls rs first n at ls₀ rs₀ base count ls″ rs″ r
         filling-full t r dn dx = record {
           room = rw dn (w .room);
+          low = label-low;
+          least = omega (arith, w .least);
           sound = rw dn label-sound;
-          whole = λ e j x k m b c. rw dn (whole-upto e j x k m b (parts e j (m .class) (rw dx at c)));
-          further = λ _. ⊎-elim (λ s. omega (arith, f .begun)) (λ s. ⊎-elim (λ q. absurd (omega (arith, f .fresh (sym q)))) (λ b. omega (arith, w .onward)) (eq-or-lt-of-le (f .begun))) (w .full t .1);
+          kept = rw dn (λ y o h. later y o (f .kept y o h));
+          whole = λ e x k m b c. rw dn (whole-upto e x k m b (parts e (labelOf v k) (m .class) (m .least) (before c)));
+          further = λ z _. ⊎-elim (λ s. omega (arith, f .onward)) (λ s. ⊎-elim (λ q. omega (arith, w .onward)) (λ q. absurd (omega arith)) (f .fresh)) (w .full t .1);
           most = omega (arith, w .full t .0);
         }
           where
-            parts : (e j : ℕ) → e < n → slot e j < slot (p .upto) i → slot e j < slot from i ⊎ ((j ≡ i) × (from ≤ e) × (e < p .upto))
-            parts e j c s = ⊎-elim (λ b. inl b) (λ b. inr (omega (arith, w .full t .0, f .few), omega (arith, w .full t .0, f .few), omega (arith, w .full t .0, f .few))) (or-not (slot e j) (slot from i))
+            before : {s : ℕ} → Passed s (r .next) → s < slot (p .upto) a
+            before c = ⊎-elim (λ b. omega arith) (λ q. absurd (omega (arith, w .full t .0))) c
 
-        pub filling-next : p .full ≡ false → Filling v u z labels many ls rs n at ls″ rs″ (p .count) (i + 1) 0
-        filling-next t = record {
+            parts : (e j : ℕ) → e < n → first ≤ e → slot e j < slot (p .upto) a → slot e j < slot from a ⊎ ((j ≡ a) × (from ≤ e) × (e < p .upto))
+            parts e j c g s = ⊎-elim (λ b. inl b) (λ b. inr (omega (arith, w .full t .0), omega (arith, w .full t .0), omega (arith, w .full t .0))) (or-not (slot e j) (slot from a))
+
+        pub filling-next : p .full ≡ false → (a″ : ℕ) → NextLabel (v .starts) (v .labels) here (a + 1) a″
+            → Filling v u z ends wide ls rs first n at ls₀ rs₀ base count ls″ rs″ (p .count) a″ first
+        filling-next t a″ h = record {
           room = w .room;
-          begun = omega (arith, f .begun, f .few);
-          few = omega arith;
-          fresh = λ q. absurd (omega (arith, f .begun, f .few));
+          low = label-low;
+          least = w .least;
+          since = omega arith;
+          onward = omega (arith, f .begun, h .onward);
+          begun = omega (arith, f .begun, h .onward);
+          most = h .most;
+          fresh = inl (omega (arith, f .begun, h .onward));
           sound = label-sound;
-          whole = λ e j x k m b c. whole-upto e j x k m b (parts e j (m .class) c);
+          kept = λ y o g. later y o (f .kept y o g);
+          whole = λ e x k m b c. whole-upto e x k m b (parts e x k m c);
+          ended = λ q e x k m. ⊎-elim (λ g. absurd (omega (arith, none-between (a + 1) a″ h e x k m g .1))) (λ g. omega arith) (le-or-lt (a + 1) (labelOf v k));
         }
           where
-            parts : (e j : ℕ) → e < n → slot e j < slot 0 (i + 1) → slot e j < slot from i ⊎ ((j ≡ i) × (from ≤ e) × (e < p .upto))
-            parts e j c s = ⊎-elim (λ b. inl b) (λ b. inr (omega (arith, f .few), omega (arith, f .few), omega (arith, w .all t))) (or-not (slot e j) (slot from i))
+            parts : (e x k : ℕ) → Moves v ls first n e x k → slot e (labelOf v k) < slot first a″
+                → slot e (labelOf v k) < slot from a ⊎ ((labelOf v k ≡ a) × (from ≤ e) × (e < p .upto))
+            parts e x k m s =
+                let i : labelOf v k ≤ a = ⊎-elim (λ g. absurd (omega (arith, none-between (a + 1) a″ h e x k m g .0, m .class, m .least))) (λ g. omega arith) (le-or-lt (a + 1) (labelOf v k)) in
+                ⊎-elim (λ b. inl b) (λ b. inr (omega (arith, m .class, f .since), omega (arith, m .class), omega (arith, w .all t, m .class))) (or-not (slot e (labelOf v k)) (slot from a))

@@ -1,8 +1,8 @@
 -- The sets of nodes that the links of a set lead to, link by link, and the links of a path.
-use mathlib.Core.Bool.{So}
-use mathlib.Core.Path.{_≡_, sym, ap, _∙_}
+use mathlib.Core.Bool.{So, false}
+use mathlib.Core.Path.{_≡_, refl, sym, ap, _∙_}
 use mathlib.Core.Logic.{⊎-elim}
-use mathlib.Core.List.{List, [], _∷_, List·Memᴰ, List·Memᴰ·head, List·Memᴰ·tail, List·Memᴰ·not-nil, List·Memᴰ·cases-cons}
+use mathlib.Core.List.{List, [], _∷_, _++_, List·Memᴰ, List·Memᴰ·head, List·Memᴰ·tail, List·Memᴰ·not-nil, List·Memᴰ·cases-cons}
 use Prim.Native.Nat.{ℕ, zero, suc, _+_, _≤_, _<_}
 use native.Mathlib.Nat.{eq-or-lt-of-le, le-of-suc-le-suc}
 use native.Mathlib.Omega.{arith}
@@ -12,9 +12,12 @@ use Rattle.theory.specs.Path.{Hop}
 use Rattle.words.specs.Words.{bit, Inside}
 use Rattle.words.specs.Laws.{bit-and, wordOf-ext, bit-wordOf}
 use Rattle.search_links.specs.Hops.{View, startOf, labelOf, toOf, total, hopAt, hopsFrom, hopsOf, Opened}
-use Rattle.search_links.specs.Sets.{among, reached, spread, imageOf}
+use Rattle.search_links.specs.Sets.{among, reached, spread, imageOf, seenAs}
 use Rattle.search_links.specs.Laws.{among-iff, bit-reached, bit-spread}
-use Rattle.search_steps.specs.Paths.{Leaves, Trail, stepWord, endsOver}
+use Rattle.search_tables.specs.Tips.{Has, Covered}
+use Rattle.search_steps.specs.declared.Part.{Part}
+use Rattle.search_steps.specs.Paths.{Leaves, Trail, endOf, stepWord, endsOver}
+use Rattle.search_steps.specs.Tables.{Beyond, Moves, slot, lastPlace, Passed, Filled}
 
 -- rows that agree on the nodes of a set have the same union there
 pub spread-agrees : (f g : ℕ → ℕ) (w : ℕ) → ((x : ℕ) → x < 64 → So (bit w x) → f x ≡ g x) → spread f w ≡ spread g w
@@ -105,3 +108,54 @@ unfolding Trail
 trail-links v o x [] l t i m = absurd (omega arith)
 trail-links v o x (k ∷ p) l (h, t) zero m = (omega (arith, leaves-below v o x k l h, o .few), leaves-low v o x k l h)
 trail-links v o x (k ∷ p) l (h, t) (suc i) m = trail-links v o (toOf v k) p (leaves-low v o x k l h) t i (le-of-suc-le-suc m)
+
+-- ---- paths one after the other
+module _ (v u : View) (z : List ℕ) where
+  pub trail-join : (x : ℕ) (p s : List ℕ) → Trail v x p → Trail v (endOf v x p) s → Trail v x (p ++ s)
+  unfolding Trail endOf
+  trail-join x [] s t r = r
+  trail-join x (k ∷ p) s (t, q) r = (t, trail-join (toOf v k) p s q r)
+
+  pub end-join : (x : ℕ) (p s : List ℕ) → endOf v x (p ++ s) ≡ endOf v (endOf v x p) s
+  unfolding endOf
+  end-join x [] s = refl
+  end-join x (k ∷ p) s = end-join (toOf v k) p s
+
+  pub over-join : (w : ℕ) (p s : List ℕ) → endsOver v u z w (p ++ s) ≡ endsOver v u z (endsOver v u z w p) s
+  unfolding endsOver
+  over-join w [] s = refl
+  over-join w (k ∷ p) s = over-join (stepWord u z w (labelOf v k) (toOf v k)) p s
+
+  -- a path of d + n links is one of d links and one of n
+  pub record Split (x d n : ℕ) (p : List ℕ) : Type 0 where
+    pub front : List ℕ
+    pub back : List ℕ
+    pub is : p ≡ front ++ back
+    pub trail : Trail v x front
+    pub onward : Trail v (endOf v x front) back
+    pub long : length front ≡ d
+    pub rest : length back ≡ n
+
+  pub split : (x d n : ℕ) (p : List ℕ) → Trail v x p → length p ≡ d + n → Split x d n p
+  unfolding Trail endOf
+  split x zero n p t l = record { front = []; back = p; is = refl; trail = tt; onward = t; long = refl; rest = omega arith }
+  split x (suc d) n [] t l = absurd (omega arith)
+  split x (suc d) n (k ∷ p) (t, r) l =
+      let s = split (toOf v k) d n p r (omega arith) in
+      record { front = k ∷ s .front; back = s .back; is = ap (λ (q : List ℕ). k ∷ q) (s .is); trail = (t, s .trail); onward = s .onward; long = ap suc (s .long); rest = s .rest }
+
+-- ---- a table that is filled from nothing with tips as they are
+module _ (v u : View) (z ends ls rs : List ℕ) (first n at : ℕ) (ls₀ rs₀ ls′ rs′ : List ℕ) (p : Part) (f : Filled v u z ends false ls rs first n at ls₀ rs₀ 0 0 ls′ rs′ p) where
+  -- has tips one link beyond
+  pub part-sound : (y o : ℕ) → Has ls′ rs′ (p .count) y o → Beyond v u z ls rs n y o
+  unfolding seenAs
+  part-sound y o h = ⊎-elim (λ g. absurd (omega (arith, g .below))) (λ (w, b, e). rw e at b) (f .sound y o h)
+
+  -- and covers those passed
+  pub part-whole : (e x k : ℕ) → Moves v ls first n e x k → at ≤ slot e (labelOf v k) → Passed (slot e (labelOf v k)) (p .next)
+      → Covered ls′ rs′ (p .count) (toOf v k) (stepWord u z (getD rs e 0) (labelOf v k) (toOf v k))
+  unfolding seenAs
+  part-whole = f .whole
+
+  pub part-further : at < lastPlace → at < p .next
+  part-further = f .further refl

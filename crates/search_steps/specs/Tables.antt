@@ -1,15 +1,14 @@
 -- The tables of tips one link beyond the tips of a table.
-use mathlib.Core.Bool.{So, true, false}
+use mathlib.Core.Bool.{Bool, So, true, false}
 use mathlib.Core.Logic.{_⊎_}
 use mathlib.Core.Path.{_≡_}
 use mathlib.Core.List.{List}
-use Prim.Native.Nat.{ℕ, _+_, _*_, _≤_, _<_}
-use lib.Bits.{bitAnd}
+use Prim.Native.Nat.{ℕ, _+_, _*_, _/_, _≤_, _<_}
 use lib.ListN.{length, getD}
 use Rattle.words.specs.Words.{bit}
-use Rattle.search_links.specs.Hops.{View, labelOf, toOf, total, hopsOf}
-use Rattle.search_links.specs.Sets.{reached, spread, rowAt}
-use Rattle.search_tables.specs.Tips.{Has, Covered, TableRoom}
+use Rattle.search_links.specs.Hops.{View, labelOf, toOf, hopsOf}
+use Rattle.search_links.specs.Sets.{reached, spread, rowAt, seenAs}
+use Rattle.search_tables.specs.Tips.{Has, Covered, TableRoom, Untouched, cutAs}
 use Rattle.search_steps.specs.declared.Stretch.{Stretch}
 use Rattle.search_steps.specs.declared.Part.{Part}
 use Rattle.search_steps.specs.Paths.{Leaves, stepWord}
@@ -28,19 +27,30 @@ pub record Beyond (v u : View) (z ls rs : List ℕ) (n y o : ℕ) : Type 0 where
   pub has : Has ls rs n cell word
   pub leads : Leads v u z cell word link y o
 
--- One of n numbers that is w, or n.
-pub record LabelPlace (rs : List ℕ) (n w e : ℕ) : Type 0 where
-  pub most : e ≤ n
-  pub there : e < n → getD rs e 0 ≡ w
+-- Lists of 512 hold the links out of each node.
+pub record Bounded (starts : List ℕ) : Type 0 where
+  pub each : (x : ℕ) → x ≤ 64 → getD starts x 0 ≤ 512
 
--- Every label of a link is one of the first `many` of the list.
-pub record Named (starts labels list : List ℕ) (many : ℕ) : Type 0 where
-  pub few : many ≤ 512
-  pub each : (k : ℕ) → k < total starts → (i : ℕ) × (i < many) × (getD list i 0 ≡ getD labels k 0)
+-- How many labels there can be: each is below.
+abbrev pub everyLabel : ℕ
+everyLabel = 65536
 
--- The set has the nodes of the first n sets.
-pub record Unites (sets : List ℕ) (n w : ℕ) : Type 0 where
-  pub each : (e x : ℕ) → e < n → So (bit (getD sets e 0) x) → So (bit w x)
+-- Of the labels from `least` on of the links out of node x, and of `best`, the smallest.
+pub record LeastLabel (starts labels : List ℕ) (x least best a : ℕ) : Type 0 where
+  pub onward : least ≤ best → least ≤ a
+  pub most : a ≤ best
+  pub none : (k : ℕ) → getD starts x 0 ≤ k → k < getD starts (x + 1) 0 → least ≤ getD labels k 0 → (a ≤ getD labels k 0) × (a < everyLabel)
+
+-- The smallest label from `least` on of the links out of the nodes; where there is none, the number of all labels.
+pub record NextLabel (starts labels : List ℕ) (cells least a : ℕ) : Type 0 where
+  pub onward : least ≤ a
+  pub most : a ≤ everyLabel
+  pub none : (x k : ℕ) → x < 64 → So (bit cells x) → getD starts x 0 ≤ k → k < getD starts (x + 1) 0 → least ≤ getD labels k 0
+      → (a ≤ getD labels k 0) × (a < everyLabel)
+
+-- The set has the nodes of the sets from `first` on, up to the n-th.
+pub record Unites (sets : List ℕ) (first n w : ℕ) : Type 0 where
+  pub each : (e x : ℕ) → first ≤ e → e < n → So (bit (getD sets e 0) x) → So (bit w x)
 
 -- The row of each of the nodes, by the label a, was put into the rows from `base` on, and no other row was touched.
 pub record Rowed (v : View) (cells a base : ℕ) (rows rows′ : List ℕ) : Type 0 where
@@ -56,37 +66,56 @@ cellsBy rows ls e = spread (rowAt rows 0) (getD ls e 0)
 abbrev pub setBy : List ℕ → List ℕ → ℕ → ℕ
 setBy rows rs e = spread (rowAt rows 1) (getD rs e 0)
 
--- The table has nothing but what it had and tips that the rows of a label lead to. It covers what it had, and the tips from the classes from
--- `from` up to r .upto.
-pub record Stretched (z rows ls rs : List ℕ) (n from : ℕ) (ls₀ rs₀ : List ℕ) (count : ℕ) (ls′ rs′ : List ℕ) (r : Stretch) : Type 0 where
+-- The table has nothing but what it had and tips that the rows of a label lead to from a class from `from` on, these from class `base` on. It covers
+-- what it had, and the tips from the classes from `from` up to r .upto.
+pub record Stretched (z ends : List ℕ) (wide : Bool) (rows ls rs : List ℕ) (n from : ℕ) (ls₀ rs₀ : List ℕ) (base count : ℕ) (ls′ rs′ : List ℕ) (r : Stretch) : Type 0 where
   pub room : TableRoom ls′ rs′ (r .count)
+  pub low : Untouched base ls₀ rs₀ ls′ rs′
+  pub least : base ≤ r .count
   pub sound : (y o : ℕ) → Has ls′ rs′ (r .count) y o
-      → Has ls₀ rs₀ count y o ⊎ ((e : ℕ) × (e < n) × So (bit (cellsBy rows ls e) y) × (bitAnd (setBy rows rs e) (getD z y 0) ≡ o))
+      → Has ls₀ rs₀ count y o ⊎ ((e : ℕ) × (from ≤ e) × (e < n) × So (bit (cellsBy rows ls e) y) × (cutAs ends wide z (setBy rows rs e) y ≡ o))
   pub kept : (y o : ℕ) → Has ls₀ rs₀ count y o → Covered ls′ rs′ (r .count) y o
-  pub whole : (e y : ℕ) → from ≤ e → e < r .upto → y < 64 → So (bit (cellsBy rows ls e) y) → Covered ls′ rs′ (r .count) y (bitAnd (setBy rows rs e) (getD z y 0))
+  pub whole : (e y : ℕ) → from ≤ e → e < r .upto → y < 64 → So (bit (cellsBy rows ls e) y) → Covered ls′ rs′ (r .count) y (cutAs ends wide z (setBy rows rs e) y)
   pub onward : from ≤ r .upto
-  pub full : r .full ≡ true → (r .upto < n) × ((from < r .upto) ⊎ (64 < count))
+  pub full : r .full ≡ true → (r .upto < n) × ((from < r .upto) ⊎ (0 < count))
   pub all : r .full ≡ false → n ≤ r .upto
 
--- Link k, with label number i, leaves node x of class e.
-pub record Moves (v : View) (labels : List ℕ) (many : ℕ) (ls : List ℕ) (n e i x k : ℕ) : Type 0 where
+-- Link k leaves node x of class e, one of those from `first` on.
+pub record Moves (v : View) (ls : List ℕ) (first n e x k : ℕ) : Type 0 where
+  pub least : first ≤ e
   pub class : e < n
-  pub label : i < many
   pub cell : x < 64
   pub inside : So (bit (getD ls e 0) x)
   pub leaves : Leaves v x k
-  pub named : labelOf v k ≡ getD labels i 0
 
--- The place of class e and label number i in the order in which a table is gone through.
+-- The place of class e and label a in the order in which a table is gone through.
 abbrev pub slot : ℕ → ℕ → ℕ
-slot e i = 128 * i + e
+slot e a = 64 * a + e
 
--- The part has nothing but tips one link beyond the table. It covers the tips by the classes and labels from place `at` up to p .next, which is
--- further on.
-pub record Filled (v u : View) (z labels : List ℕ) (many : ℕ) (ls rs : List ℕ) (n at : ℕ) (ls′ rs′ : List ℕ) (p : Part) : Type 0 where
+-- The place where all are gone through.
+abbrev pub lastPlace : ℕ
+lastPlace = 64 * everyLabel
+
+-- A place comes before another, or that is the last.
+abbrev pub Passed : ℕ → ℕ → Type 0
+Passed s next = (s < next) ⊎ (next ≡ lastPlace)
+
+-- The class where a label is begun: the first, or that of the place `at` where it is a later one by the same label.
+pub record Begins (first a at from : ℕ) : Type 0 where
+  pub least : first ≤ from
+  pub few : first < 64 → from < 64
+  pub reaches : at / 64 ≤ a → at ≤ slot from a
+  pub most : (e : ℕ) → first ≤ e → at ≤ slot e a → from ≤ e
+
+-- The table has nothing but what it had and tips one link beyond the classes of another from `first` on, as they are or widened, these from class `base`
+-- on. It covers what it had, and the tips by the classes and labels from place `at` up to p .next, which is further on where the table was empty.
+pub record Filled (v u : View) (z ends : List ℕ) (wide : Bool) (ls rs : List ℕ) (first n at : ℕ) (ls₀ rs₀ : List ℕ) (base count : ℕ) (ls′ rs′ : List ℕ) (p : Part) : Type 0 where
   pub room : TableRoom ls′ rs′ (p .count)
-  pub sound : (y o : ℕ) → Has ls′ rs′ (p .count) y o → Beyond v u z ls rs n y o
-  pub whole : (e i x k : ℕ) → Moves v labels many ls n e i x k → at ≤ slot e i → slot e i < p .next
-      → Covered ls′ rs′ (p .count) (toOf v k) (stepWord u z (getD rs e 0) (labelOf v k) (toOf v k))
-  pub further : at < 128 * many → at < p .next
-  pub most : p .next ≤ 128 * many
+  pub low : Untouched base ls₀ rs₀ ls′ rs′
+  pub least : base ≤ p .count
+  pub sound : (y o : ℕ) → Has ls′ rs′ (p .count) y o → Has ls₀ rs₀ count y o ⊎ ((w : ℕ) × Beyond v u z ls rs n y w × (seenAs ends wide w ≡ o))
+  pub kept : (y o : ℕ) → Has ls₀ rs₀ count y o → Covered ls′ rs′ (p .count) y o
+  pub whole : (e x k : ℕ) → Moves v ls first n e x k → at ≤ slot e (labelOf v k) → Passed (slot e (labelOf v k)) (p .next)
+      → Covered ls′ rs′ (p .count) (toOf v k) (seenAs ends wide (stepWord u z (getD rs e 0) (labelOf v k) (toOf v k)))
+  pub further : count ≡ 0 → at < lastPlace → at < p .next
+  pub most : p .next ≤ lastPlace

@@ -1,12 +1,12 @@
 // Paths from a cell of one book, each with the paths of the other book that are alike to it, by their tips, in tables: where they lead by one
-// link more, and which link leads to a tip.
+// link more.
 ghost use mathlib.Core.Path.{_≡_};
-ghost use Prim.Native.Nat.{_*_, _≤_, _<_};
+ghost use Prim.Native.Nat.{_≤_, _<_};
 ghost use lib.ListN.{length};
-ghost use Rattle.search_links.specs.Hops.{viewOf, total, Opened};
+ghost use Rattle.search_links.specs.Hops.{viewOf, Opened};
 ghost use Rattle.search_steps.specs.Paths.{stepWord};
 ghost use Rattle.search_tables.specs.Tips.{TableRoom};
-ghost use Rattle.search_steps.specs.Tables.{LabelPlace, Named, Unites, Rowed, Stretched, Filled};
+ghost use Rattle.search_steps.specs.Tables.{Bounded, everyLabel, LeastLabel, NextLabel, Unites, Rowed, Stretched, Begins, lastPlace, Filled};
 
 // The cells that a link with the label leads to from a cell of w, of those related to y.
 pub fn step(
@@ -25,54 +25,54 @@ pub fn step(
     words::meet(next, z[y as usize])
 }
 
-// A list that has every label of a book's links: its first `count` places.
-pub struct Labels {
-    pub count: usize,
-    pub list: [u16; 512],
-}
+// How many labels there can be: each is below.
+const EVERY_LABEL: usize = 65536;
 
-// One of n labels that is `label`, or n.
-fn label_place(list: &[u16; 512], n: usize, label: u16) -> usize
-    requires { ⌜ n ≤ 512 ⌝ }
-    ensures { λ r. ⌜ LabelPlace (now (list .entry)) n label r ⌝ }
+// The place where all classes and labels are gone through.
+pub const LAST_PLACE: usize = 4194304;
+
+// Of the labels from `least` on of the links out of cell x, and of `best`, the smallest.
+fn label_from(starts: &[u16; 65], labels: &[u16; 512], x: u8, least: usize, best: usize) -> usize
+    requires { ⌜ Bounded (now starts) × (x < 64) ⌝ }
+    ensures { λ r. ⌜ LeastLabel (now (starts .entry)) (now (labels .entry)) x least best r ⌝ }
 {
-    let mut i = 0;
-    while i < n {
-        if list[i] == label {
-            return i;
+    let until = starts[x as usize + 1];
+    let mut k = starts[x as usize];
+    let mut out = best;
+    while k < until {
+        let label = search_links::label(labels, k) as usize;
+        if least <= label {
+            if label < out {
+                out = label;
+            }
         }
-        i += 1;
-    }
-    i
-}
-
-// The list of the labels of a book's links.
-pub fn labels_of(starts: &[u16; 65], labels: &[u16; 512]) -> Labels
-    requires { ⌜ total (now starts) ≤ 512 ⌝ }
-    ensures { λ r. ⌜ Named (now (starts .entry)) (now (labels .entry)) (r .list) (r .count) ⌝ }
-{
-    let links = starts[64] as usize;
-    let mut list = [0u16; 512];
-    let mut count = 0;
-    let mut k = 0;
-    while k < links {
-        let label = search_links::label(labels, k as u16);
         k += 1;
-        if label_place(&list, count, label) == count {
-            list[count] = label;
-            count += 1;
-        }
     }
-    Labels { count, list }
+    out
 }
 
-// A set that has all of the first n sets.
-fn union_of(sets: &[u64; 128], n: usize) -> u64
-    requires { ⌜ n ≤ 128 ⌝ }
-    ensures { λ r. ⌜ Unites (now (sets .entry)) n r ⌝ }
+// The smallest label from `least` on of the links out of the cells; where there is none, the number of all labels.
+fn next_label(starts: &[u16; 65], labels: &[u16; 512], cells: u64, least: usize) -> usize
+    requires { ⌜ Bounded (now starts) × (least ≤ everyLabel) ⌝ }
+    ensures { λ r. ⌜ NextLabel (now (starts .entry)) (now (labels .entry)) cells least r ⌝ }
+{
+    let mut out = EVERY_LABEL;
+    let mut left = cells;
+    while left != 0 {
+        let x = words::lowest(left);
+        out = label_from(starts, labels, x, least, out);
+        left = words::without(left, x);
+    }
+    out
+}
+
+// A set that has all of the sets from `first` on, up to the n-th.
+fn union_of(sets: &[u64; 64], first: usize, n: usize) -> u64
+    requires { ⌜ n ≤ 64 ⌝ }
+    ensures { λ r. ⌜ Unites (now (sets .entry)) first n r ⌝ }
 {
     let mut out = 0u64;
-    let mut e = 0;
+    let mut e = first;
     while e < n {
         out = words::union(out, sets[e]);
         e += 1;
@@ -113,24 +113,27 @@ pub struct Stretch {
 // the rows of the label, of the one book at 0 and of the other at 64.
 fn fill_label(
     z: &[u64; 64],
+    eb: &[u64; 128],
+    wide: bool,
     rows: &[u64; 128],
-    lefts: &[u64; 128],
-    rights: &[u64; 128],
+    lefts: &[u64; 64],
+    rights: &[u64; 64],
     n: usize,
     from: usize,
-    ends: &mut [u64; 128],
-    sets: &mut [u64; 128],
+    ends: &mut [u64; 64],
+    sets: &mut [u64; 64],
+    base: usize,
     count: usize,
 ) -> Stretch
-    requires { ⌜ TableRoom (now ends) (now sets) count × (n ≤ 128) ⌝ }
-    ensures { λ r. ⌜ Stretched (now (z .entry)) (now (rows .entry)) (now (lefts .entry)) (now (rights .entry)) n from (now (ends .entry)) (now (sets .entry)) count (now (ends .exit)) (now (sets .exit)) r ⌝ }
+    requires { ⌜ TableRoom (now ends) (now sets) count × (base ≤ count) × (n ≤ 64) ⌝ }
+    ensures { λ r. ⌜ Stretched (now (z .entry)) (now (eb .entry)) wide (now (rows .entry)) (now (lefts .entry)) (now (rights .entry)) n from (now (ends .entry)) (now (sets .entry)) base count (now (ends .exit)) (now (sets .exit)) r ⌝ }
 {
     let mut total = count;
     let mut e = from;
     while e < n {
         let cells = search_links::passing(rows, 0, lefts[e]);
         let s = search_links::passing(rows, 1, rights[e]);
-        let g = search_tables::grow(z, ends, sets, total, cells, s);
+        let g = search_tables::grow(z, eb, wide, ends, sets, base, total, cells, s);
         total = g.count;
         if g.full {
             return Stretch {
@@ -148,14 +151,26 @@ fn fill_label(
     }
 }
 
+// The class where a label is begun: the first, or that of the place `at` where it is a later one by the same label.
+fn begin(first: usize, label: usize, at: usize) -> usize
+    ensures { λ r. ⌜ Begins first label at r ⌝ }
+{
+    if label == at / 64 {
+        if first < at % 64 {
+            return at % 64;
+        }
+    }
+    first
+}
+
 // The tips one link beyond some of a table's classes, as a table of `count` classes, and the place where to go on.
 pub struct Part {
     pub count: usize,
     pub next: usize,
 }
 
-// Makes a table of the tips one link beyond those of another, from the place `at` on, until it is full or covers all. The place of label number i
-// and class e is 128 × i + e.
+// Puts the tips one link beyond those of a table's classes from `first` on, as they are or widened, into a table of `count` classes, from the place `at` on,
+// until it is full or covers all. The place of a label and class e is 64 × the label + e. The classes below `base` stay as they are.
 pub fn fill(
     sa: &[u16; 65],
     la: &[u16; 512],
@@ -163,41 +178,57 @@ pub fn fill(
     sb: &[u16; 65],
     lb: &[u16; 512],
     tb: &[u8; 512],
+    eb: &[u64; 128],
     z: &[u64; 64],
-    labels: &[u16; 512],
-    many: usize,
-    lefts: &[u64; 128],
-    rights: &[u64; 128],
+    wide: bool,
+    lefts: &[u64; 64],
+    rights: &[u64; 64],
+    first: usize,
     n: usize,
     at: usize,
-    ends: &mut [u64; 128],
-    sets: &mut [u64; 128],
+    ends: &mut [u64; 64],
+    sets: &mut [u64; 64],
+    base: usize,
+    count: usize,
 ) -> Part
-    requires { ⌜ Opened (now sa) (now ta) × Opened (now sb) (now tb) × (many ≤ 512) × (n ≤ 128) × (at ≤ 128 * many) × TableRoom (now ends) (now sets) 0 ⌝ }
-    ensures { λ r. ⌜ Filled (viewOf (now (sa .entry)) (now (la .entry)) (now (ta .entry))) (viewOf (now (sb .entry)) (now (lb .entry)) (now (tb .entry))) (now (z .entry)) (now (labels .entry)) many (now (lefts .entry)) (now (rights .entry)) n at (now (ends .exit)) (now (sets .exit)) r ⌝ }
+    requires { ⌜ Opened (now sa) (now ta) × Opened (now sb) (now tb) × (n ≤ 64) × (at ≤ lastPlace) × TableRoom (now ends) (now sets) count × (base ≤ count) ⌝ }
+    ensures { λ r. ⌜ Filled (viewOf (now (sa .entry)) (now (la .entry)) (now (ta .entry))) (viewOf (now (sb .entry)) (now (lb .entry)) (now (tb .entry))) (now (z .entry)) (now (eb .entry)) wide (now (lefts .entry)) (now (rights .entry)) first n at (now (ends .entry)) (now (sets .entry)) base count (now (ends .exit)) (now (sets .exit)) r ⌝ }
 {
-    let here = union_of(lefts, n);
-    let there = union_of(rights, n);
+    let here = union_of(lefts, first, n);
+    let there = union_of(rights, first, n);
     let mut rows = [0u64; 128];
-    let mut count = 0;
-    let mut i = at / 128;
-    let mut from = at % 128;
-    while i < many {
-        put_rows(sa, la, ta, here, labels[i], 0, &mut rows);
-        put_rows(sb, lb, tb, there, labels[i], 64, &mut rows);
-        let p = fill_label(z, &rows, lefts, rights, n, from, ends, sets, count);
-        count = p.count;
+    let mut total = count;
+    let mut label = next_label(sa, la, here, at / 64);
+    let mut from = begin(first, label, at);
+    while label < EVERY_LABEL {
+        put_rows(sa, la, ta, here, label as u16, 0, &mut rows);
+        put_rows(sb, lb, tb, there, label as u16, 64, &mut rows);
+        let p = fill_label(
+            z,
+            eb,
+            wide,
+            &rows,
+            lefts,
+            rights,
+            n,
+            from,
+            ends,
+            sets,
+            base,
+            total,
+        );
+        total = p.count;
         if p.full {
             return Part {
-                count,
-                next: 128 * i + p.upto,
+                count: total,
+                next: 64 * label + p.upto,
             };
         }
-        from = 0;
-        i += 1;
+        from = first;
+        label = next_label(sa, la, here, label + 1);
     }
     Part {
-        count,
-        next: 128 * many,
+        count: total,
+        next: LAST_PLACE,
     }
 }

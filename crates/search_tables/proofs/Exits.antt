@@ -16,8 +16,9 @@ use Rattle.theory.specs.TestLaws.{never, le-or-lt, and-iff, or-iff, not-iff}
 use Rattle.words.specs.Words.{bit, Inside, IsLowest, IsWithout, IsMinus}
 use Rattle.words.specs.Laws.{bit-zero, bit-or, bit-with, bit-without, first-least}
 use Rattle.search_tables.specs.declared.Grown.{Grown}
-use Rattle.search_tables.specs.Tips.{Has, Covered, TableRoom, Rowmates, Rest, ClassPlace, Joined, Narrowed, Put, Grew}
-use Rattle.search_tables.specs.Laws.{equal-or, covered-by-has, covered-trans}
+use Rattle.search_tables.specs.Tips.{Has, Covered, TableRoom, Rowmates, Rest, Untouched, ClassPlace, Joined, Narrowed, Put, cutAs, Grew}
+use Rattle.search_links.specs.Sets.{seenAs}
+use Rattle.search_tables.specs.Laws.{equal-or, covered-by-has, covered-trans, untouched-refl, untouched-trans}
 
 -- the empty set has no cells
 none-in : {A : Type 0} (w x : ℕ) → w ≡ 0 → So (bit w x) → A
@@ -97,7 +98,7 @@ module _ (ls rs : List ℕ) (n cells w : ℕ) where
   }
 
 -- ---- cells are put into class e, which then has the cells l
-module _ (ls rs : List ℕ) (n cells w e : ℕ) (room : TableRoom ls rs n) (free : e < 128) (placed : ClassPlace ls rs n w e) where
+module _ (ls rs : List ℕ) (base n cells w e : ℕ) (room : TableRoom ls rs n) (free : e < 64) (placed : ClassPlace ls rs base n w e) where
   -- a class that has cells has the set already
   word-is : (y : ℕ) → e < n → So (bit (getD ls e 0) y) → getD rs e 0 ≡ w
   word-is y b i = ⊎-elim (λ q. q) (λ q. none-in (getD ls e 0) y q i) (placed .there b)
@@ -156,13 +157,18 @@ module _ (ls rs : List ℕ) (n cells w e : ℕ) (room : TableRoom ls rs n) (free
           word = rw (getD-set-other rs e (h .class) w 0 q) (h .word);
         }
 
-    joins : Joined ls rs n cells w (set ls e l) (set rs e w) n′
+    joins : Joined ls rs base n cells w (set ls e l) (set rs e w) n′
     joins = record {
+      low = record {
+        left = λ k m. getD-set-other ls e k l 0 (λ q. omega (arith, placed .least));
+        right = λ k m. getD-set-other rs e k w 0 (λ q. omega (arith, placed .least));
+      };
       room = record {
         left = length-set ls e l ∙ room .left;
         right = length-set rs e w ∙ room .right;
         few = ⊎-elim (λ (p, _). omega (arith, room .few)) (λ (p, q). omega arith) counted;
       };
+      least = ⊎-elim (λ (p, _). omega (arith, placed .least)) (λ (p, _). omega (arith, placed .least)) counted;
       few = ⊎-elim (λ (p, _). omega arith) (λ (p, _). omega arith) counted;
       sound = joins-sound;
       kept = joins-kept;
@@ -170,7 +176,7 @@ module _ (ls rs : List ℕ) (n cells w e : ℕ) (room : TableRoom ls rs n) (free
     }
 
   -- it is one of the table's
-  pub joined : (l : ℕ) → e < n → l ≡ bitOr (getD ls e 0) cells → Joined ls rs n cells w (set ls e l) (set rs e w) n
+  pub joined : (l : ℕ) → e < n → l ≡ bitOr (getD ls e 0) cells → Joined ls rs base n cells w (set ls e l) (set rs e w) n
   joined l b d =
       joins l n (inl (refl, b)) (λ y _ i. both y ∙ or-iff _ _ .1 (inl i)) (λ y i. both y ∙ or-iff (bit (getD ls e 0) y) _ .1 (inr i))
       (λ y i. ⊎-elim (λ j. inl (b, j)) inr (or-iff _ _ .0 (sym (both y) ∙ i)))
@@ -179,15 +185,15 @@ module _ (ls rs : List ℕ) (n cells w e : ℕ) (room : TableRoom ls rs n) (free
       both y = ap (λ (v : ℕ). bit v y) d ∙ bit-or (getD ls e 0) cells y
 
   -- it is the next
-  pub begun : (n′ : ℕ) → n ≤ e → n′ ≡ n + 1 → Joined ls rs n cells w (set ls e cells) (set rs e w) n′
+  pub begun : (n′ : ℕ) → n ≤ e → n′ ≡ n + 1 → Joined ls rs base n cells w (set ls e cells) (set rs e w) n′
   begun n′ b d = joins cells n′ (inr (d, omega (arith, placed .most))) (λ y l. absurd (omega arith)) (λ y i. i) (λ y. inr)
 
 -- ---- cells are taken out of classes whose sets are wider
-module _ (ls rs : List ℕ) (n cells w : ℕ) where
-  pub narrowed-start : TableRoom ls rs n → Narrowed ls rs n cells w ls
-  narrowed-start r = record { room = r; sound = λ y o h. h; kept = λ y o h. inl h }
+module _ (ls rs : List ℕ) (base n cells w : ℕ) where
+  pub narrowed-start : TableRoom ls rs n → Narrowed ls rs base n cells w ls
+  narrowed-start r = record { room = r; low = untouched-refl base ls rs; sound = λ y o h. h; kept = λ y o h. inl h }
 
-  module _ (ls′ : List ℕ) (e l : ℕ) (r : Bool) (f : Narrowed ls rs n cells w ls′) (b : e < n) (other : getD rs e 0 ≡ w → ⊥)
+  module _ (ls′ : List ℕ) (e l : ℕ) (r : Bool) (f : Narrowed ls rs base n cells w ls′) (least : base ≤ e) (b : e < n) (other : getD rs e 0 ≡ w → ⊥)
       (d : (r ≡ true) ↔ Inside w (getD rs e 0)) (t : r ≡ true) (m : IsMinus (getD ls′ e 0) cells l) where
     here-at : getD (set ls′ e l) e 0 ≡ l
     here-at = getD-set-same ls′ e l 0 (omega (arith, f .room .left, f .room .few))
@@ -220,19 +226,22 @@ module _ (ls rs : List ℕ) (n cells w : ℕ) where
         there : (h .class ≡ e → ⊥) → Has (set ls′ e l) rs n y o ⊎ (So (bit cells y) × Inside w o × (o ≡ w → ⊥))
         there q = inl (stays (rw (getD-set-other ls′ e (h .class) l 0 q) (h .inside)))
 
-    pub narrowed-next : Narrowed ls rs n cells w (set ls′ e l)
+    pub narrowed-next : Narrowed ls rs base n cells w (set ls′ e l)
     narrowed-next = record {
+      low = record { left = λ k m. getD-set-other ls′ e k l 0 (λ q. omega arith) ∙ f .low .left k m; right = f .low .right };
       room = record { left = length-set ls′ e l ∙ f .room .left; right = f .room .right; few = f .room .few };
       sound = λ y o h. f .sound y o (turn-sound y o h);
       kept = λ y o h. ⊎-elim (turn-kept y o) inr (f .kept y o h);
     }
 
 -- ---- tips are put into a table
-module _ (ls rs : List ℕ) (n cells w : ℕ) (room : TableRoom ls rs n) (new : ℕ) (rest : Rest ls rs n cells w new) where
+module _ (ls rs : List ℕ) (base n cells w : ℕ) (room : TableRoom ls rs n) (least : base ≤ n) (new : ℕ) (rest : Rest ls rs n cells w new) where
   -- all are covered
-  pub put-none : new ≡ 0 → (r : Grown) → r .count ≡ n → r .full ≡ false → Put ls rs n cells w ls rs r
+  pub put-none : new ≡ 0 → (r : Grown) → r .count ≡ n → r .full ≡ false → Put ls rs base n cells w ls rs r
   put-none e r dc df = record {
     room = rw dc room;
+    low = untouched-refl base ls rs;
+    least = omega arith;
     few = omega arith;
     full = λ t. absurd (false≢true (sym df ∙ t));
     sound = λ y o h. inl (rw dc at h);
@@ -241,9 +250,11 @@ module _ (ls rs : List ℕ) (n cells w : ℕ) (room : TableRoom ls rs n) (new : 
   }
 
   -- there is no room
-  pub put-full : (e : ℕ) → ClassPlace ls rs n w e → e ≡ 128 → (r : Grown) → r .count ≡ n → r .full ≡ true → Put ls rs n cells w ls rs r
+  pub put-full : (e : ℕ) → ClassPlace ls rs base n w e → e ≡ 64 → (r : Grown) → r .count ≡ n → r .full ≡ true → Put ls rs base n cells w ls rs r
   put-full e p q r dc df = record {
     room = rw dc room;
+    low = untouched-refl base ls rs;
+    least = omega arith;
     few = omega arith;
     full = λ _. (omega (arith, p .most, room .few), dc);
     sound = λ y o h. inl (rw dc at h);
@@ -252,7 +263,7 @@ module _ (ls rs : List ℕ) (n cells w : ℕ) (room : TableRoom ls rs n) (new : 
   }
 
   -- the others are joined to a class, and taken out of the classes with wider sets
-  module _ (ls′ rs′ : List ℕ) (n′ : ℕ) (ls″ : List ℕ) (j : Joined ls rs n new w ls′ rs′ n′) (f : Narrowed ls′ rs′ n′ new w ls″) where
+  module _ (ls′ rs′ : List ℕ) (n′ : ℕ) (ls″ : List ℕ) (j : Joined ls rs base n new w ls′ rs′ n′) (f : Narrowed ls′ rs′ base n′ new w ls″) where
     news : (y : ℕ) → y < 64 → So (bit new y) → Has ls″ rs′ n′ y w
     news y l i = ⊎-elim (λ h. h) (λ (_, _, q). absurd (q refl)) (f .kept y w (j .new y l i))
 
@@ -260,9 +271,11 @@ module _ (ls rs : List ℕ) (n cells w : ℕ) (room : TableRoom ls rs n) (new : 
     keeps y o h =
         ⊎-elim (covered-by-has ls″ rs′ n′ y o) (λ (i, p, _). record { word = w; has = news y (h .cell) i; inside = p }) (f .kept y o (j .kept y o h))
 
-    pub put-done : (r : Grown) → r .count ≡ n′ → r .full ≡ false → Put ls rs n cells w ls″ rs′ r
+    pub put-done : (r : Grown) → r .count ≡ n′ → r .full ≡ false → Put ls rs base n cells w ls″ rs′ r
     put-done r dc df = record {
       room = rw dc (f .room);
+      low = untouched-trans base ls rs ls′ rs′ (j .low) ls″ rs′ (f .low);
+      least = omega (arith, j .least);
       few = omega (arith, j .few);
       full = λ t. absurd (false≢true (sym df ∙ t));
       sound = λ y o h. ⊎-elim inl (λ (i, q). inr (rest .part y i, q)) (j .sound y o (f .sound y o (rw dc at h)));
@@ -274,19 +287,23 @@ module _ (ls rs : List ℕ) (n cells w : ℕ) (room : TableRoom ls rs n) (new : 
     }
 
 -- ---- tips are put into a table, those of one row at once: of each node, it is still to come, or the table covers its tip
-pub record Growing (z ls₀ rs₀ : List ℕ) (n cells s : ℕ) (ls rs : List ℕ) (count left : ℕ) : Type 0 where
+pub record Growing (z ends : List ℕ) (wide : Bool) (ls₀ rs₀ : List ℕ) (base n cells s : ℕ) (ls rs : List ℕ) (count left : ℕ) : Type 0 where
   pub room : TableRoom ls rs count
+  pub low : Untouched base ls₀ rs₀ ls rs
+  pub least : base ≤ count
   pub many : (i : ℕ) → So (bit left i) → count ≤ n + i
   pub small : left < 2 ^ 64
-  pub sound : (y o : ℕ) → Has ls rs count y o → Has ls₀ rs₀ n y o ⊎ (So (bit cells y) × (bitAnd s (getD z y 0) ≡ o))
+  pub sound : (y o : ℕ) → Has ls rs count y o → Has ls₀ rs₀ n y o ⊎ (So (bit cells y) × (cutAs ends wide z s y ≡ o))
   pub kept : (y o : ℕ) → Has ls₀ rs₀ n y o → Covered ls rs count y o
   pub part : (y : ℕ) → So (bit left y) → So (bit cells y)
-  pub done : (y : ℕ) → y < 64 → So (bit cells y) → So (bit left y) ⊎ Covered ls rs count y (bitAnd s (getD z y 0))
+  pub done : (y : ℕ) → y < 64 → So (bit cells y) → So (bit left y) ⊎ Covered ls rs count y (cutAs ends wide z s y)
 
-module _ (z ls₀ rs₀ : List ℕ) (n cells s : ℕ) where
-  pub growing-start : TableRoom ls₀ rs₀ n → cells < 2 ^ 64 → Growing z ls₀ rs₀ n cells s ls₀ rs₀ n cells
-  growing-start r l = record {
+module _ (z ends : List ℕ) (wide : Bool) (ls₀ rs₀ : List ℕ) (base n cells s : ℕ) where
+  pub growing-start : TableRoom ls₀ rs₀ n → base ≤ n → cells < 2 ^ 64 → Growing z ends wide ls₀ rs₀ base n cells s ls₀ rs₀ n cells
+  growing-start r b l = record {
     room = r;
+    low = untouched-refl base ls₀ rs₀;
+    least = b;
     many = λ i _. omega arith;
     small = l;
     sound = λ y o h. inl h;
@@ -295,30 +312,40 @@ module _ (z ls₀ rs₀ : List ℕ) (n cells s : ℕ) where
     done = λ y _ i. inl i;
   }
 
-  module _ (ls rs : List ℕ) (count left : ℕ) (g : Growing z ls₀ rs₀ n cells s ls rs count left) where
-    pub growing-end : left ≡ 0 → (r : Grown) → r .count ≡ count → r .full ≡ false → Grew z ls₀ rs₀ n cells s ls rs r
+  module _ (ls rs : List ℕ) (count left : ℕ) (g : Growing z ends wide ls₀ rs₀ base n cells s ls rs count left) where
+    pub growing-end : left ≡ 0 → (r : Grown) → r .count ≡ count → r .full ≡ false → Grew z ends wide ls₀ rs₀ base n cells s ls rs r
     growing-end e r dc df = record {
       room = rw dc (g .room);
+      low = g .low;
+      least = omega (arith, g .least);
       full = λ t. absurd (false≢true (sym df ∙ t));
       sound = rw dc (g .sound);
       kept = rw dc (g .kept);
       whole = λ _ y l i. rw dc (⊎-elim (none-in left y e) (λ c. c) (g .done y l i));
     }
 
-    module _ (y row mates w : ℕ) (ls′ rs′ : List ℕ) (p : Grown) (low : IsLowest left y) (dr : row ≡ getD z y 0)
-        (m : Rowmates z left row mates) (dw : w ≡ bitAnd s row) (a : Put ls rs count mates w ls′ rs′ p) where
-      on-sound : (x o : ℕ) → Has ls′ rs′ (p .count) x o → Has ls₀ rs₀ n x o ⊎ (So (bit cells x) × (bitAnd s (getD z x 0) ≡ o))
+    module _ (y row mates cut w : ℕ) (ls′ rs′ : List ℕ) (p : Grown) (low : IsLowest left y) (dr : row ≡ getD z y 0)
+        (m : Rowmates z left row mates) (dc : cut ≡ bitAnd s row) (dw : w ≡ seenAs ends wide cut) (a : Put ls rs base count mates w ls′ rs′ p) where
+      set-is : w ≡ seenAs ends wide (bitAnd s row)
+      set-is = dw ∙ ap (seenAs ends wide) dc
+
+      on-sound : (x o : ℕ) → Has ls′ rs′ (p .count) x o → Has ls₀ rs₀ n x o ⊎ (So (bit cells x) × (cutAs ends wide z s x ≡ o))
       on-sound x o h =
-          ⊎-elim (g .sound x o) (λ (i, q). let (j, d) = m .sound x i in inr (g .part x j, ap (bitAnd s) d ∙ sym dw ∙ sym q)) (a .sound x o h)
+          ⊎-elim (g .sound x o) (λ (i, q). let (j, d) = m .sound x i in inr (g .part x j, ap (λ (r : ℕ). seenAs ends wide (bitAnd s r)) d ∙ sym set-is ∙ sym q)) (a .sound x o h)
 
       on-kept : (x o : ℕ) → Has ls₀ rs₀ n x o → Covered ls′ rs′ (p .count) x o
       on-kept x o h = covered-trans ls rs count ls′ rs′ (p .count) (a .kept) x o (g .kept x o h)
 
-      pub growing-full : p .full ≡ true → (r : Grown) → r .count ≡ count → r .full ≡ true → Grew z ls₀ rs₀ n cells s ls′ rs′ r
-      growing-full t r dc df =
-          let q : r .count ≡ p .count = dc ∙ sym (a .full t .1) in
+      on-low : Untouched base ls₀ rs₀ ls′ rs′
+      on-low = untouched-trans base ls₀ rs₀ ls rs (g .low) ls′ rs′ (a .low)
+
+      pub growing-full : p .full ≡ true → (r : Grown) → r .count ≡ count → r .full ≡ true → Grew z ends wide ls₀ rs₀ base n cells s ls′ rs′ r
+      growing-full t r dn df =
+          let q : r .count ≡ p .count = dn ∙ sym (a .full t .1) in
           record {
             room = rw q (a .room);
+            low = on-low;
+            least = omega (arith, a .least);
             full = λ _. omega (arith, a .full t .0, g .many y (low .there), low .small);
             sound = rw q on-sound;
             kept = rw q on-kept;
@@ -341,16 +368,18 @@ module _ (z ls₀ rs₀ : List ℕ) (n cells s : ℕ) where
             let (j, k) = minus-in left mates left′ off i e in
             ⊎-elim (λ q. absurd (k (rw (← q) mates-there))) (λ l. omega (arith, a .few, g .many y (low .there))) (eq-or-lt-of-le (least i j))
 
-        pub growing-next : p .full ≡ false → Growing z ls₀ rs₀ n cells s ls′ rs′ (p .count) left′
+        pub growing-next : p .full ≡ false → Growing z ends wide ls₀ rs₀ base n cells s ls′ rs′ (p .count) left′
         growing-next t = record {
           room = a .room;
+          low = on-low;
+          least = a .least;
           many = on-many;
           small = omega (arith, growing-less, g .small);
           sound = on-sound;
           kept = on-kept;
           part = λ x e. g .part x (minus-in left mates left′ off x e .0);
           done = λ x l e. ⊎-elim
-              (λ i. ⊎-elim inl (λ j. inr (rw (m .sound x j .1, ← dw) (a .new t x l j))) (minus-or left mates left′ off x i))
+              (λ i. ⊎-elim inl (λ j. inr (rw (m .sound x j .1, ← set-is) (a .new t x l j))) (minus-or left mates left′ off x i))
               (λ c. inr (covered-trans ls rs count ls′ rs′ (p .count) (a .kept) x _ c))
               (g .done x l e);
         }

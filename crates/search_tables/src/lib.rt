@@ -21,8 +21,8 @@ fn rowmates(z: &[u64; 64], cells: u64, row: u64) -> u64
 }
 
 // The cells of a set that are in no class with a set inside of w.
-fn uncovered(lefts: &[u64; 128], rights: &[u64; 128], n: usize, cells: u64, w: u64) -> u64
-    requires { ⌜ n ≤ 128 ⌝ }
+fn uncovered(lefts: &[u64; 64], rights: &[u64; 64], n: usize, cells: u64, w: u64) -> u64
+    requires { ⌜ n ≤ 64 ⌝ }
     ensures { λ r. ⌜ Rest (now (lefts .entry)) (now (rights .entry)) n cells w r ⌝ }
 {
     let mut left = cells;
@@ -39,12 +39,12 @@ fn uncovered(lefts: &[u64; 128], rights: &[u64; 128], n: usize, cells: u64, w: u
     left
 }
 
-// One of n classes that has the set w or no cells, or n.
-fn place(lefts: &[u64; 128], rights: &[u64; 128], n: usize, w: u64) -> usize
-    requires { ⌜ n ≤ 128 ⌝ }
-    ensures { λ r. ⌜ ClassPlace (now (lefts .entry)) (now (rights .entry)) n w r ⌝ }
+// One of n classes from `base` on that has the set w or no cells, or n.
+fn place(lefts: &[u64; 64], rights: &[u64; 64], base: usize, n: usize, w: u64) -> usize
+    requires { ⌜ (base ≤ n) × (n ≤ 64) ⌝ }
+    ensures { λ r. ⌜ ClassPlace (now (lefts .entry)) (now (rights .entry)) base n w r ⌝ }
 {
-    let mut e = 0;
+    let mut e = base;
     while e < n {
         if rights[e] == w {
             return e;
@@ -59,15 +59,16 @@ fn place(lefts: &[u64; 128], rights: &[u64; 128], n: usize, w: u64) -> usize
 
 // Puts the tips of the cells with the set w into class e, which has that set or no cells or is the next, and says how many classes there are.
 fn join(
-    lefts: &mut [u64; 128],
-    rights: &mut [u64; 128],
+    lefts: &mut [u64; 64],
+    rights: &mut [u64; 64],
+    base: usize,
     n: usize,
     e: usize,
     cells: u64,
     w: u64,
 ) -> usize
-    requires { ⌜ TableRoom (now lefts) (now rights) n × (e < 128) × ClassPlace (now lefts) (now rights) n w e ⌝ }
-    ensures { λ r. ⌜ Joined (now (lefts .entry)) (now (rights .entry)) n cells w (now (lefts .exit)) (now (rights .exit)) r ⌝ }
+    requires { ⌜ TableRoom (now lefts) (now rights) n × (e < 64) × ClassPlace (now lefts) (now rights) base n w e ⌝ }
+    ensures { λ r. ⌜ Joined (now (lefts .entry)) (now (rights .entry)) base n cells w (now (lefts .exit)) (now (rights .exit)) r ⌝ }
 {
     rights[e] = w;
     if e < n {
@@ -78,12 +79,12 @@ fn join(
     n + 1
 }
 
-// Takes the cells out of each class whose set is wider than w.
-fn narrow(lefts: &mut [u64; 128], rights: &[u64; 128], n: usize, cells: u64, w: u64)
-    requires { ⌜ TableRoom (now lefts) (now rights) n ⌝ }
-    ensures { λ _. ⌜ Narrowed (now (lefts .entry)) (now (rights .entry)) n cells w (now (lefts .exit)) ⌝ }
+// Takes the cells out of each class from `base` on whose set is wider than w.
+fn narrow(lefts: &mut [u64; 64], rights: &[u64; 64], base: usize, n: usize, cells: u64, w: u64)
+    requires { ⌜ TableRoom (now lefts) (now rights) n × (base ≤ n) ⌝ }
+    ensures { λ _. ⌜ Narrowed (now (lefts .entry)) (now (rights .entry)) base n cells w (now (lefts .exit)) ⌝ }
 {
-    let mut e = 0;
+    let mut e = base;
     while e < n {
         let set = rights[e];
         if set != w {
@@ -101,10 +102,18 @@ pub struct Grown {
     pub full: bool,
 }
 
-// Puts the tips of the cells with the set w into a table of n classes, but for those that it covers, if there is room.
-pub fn put(lefts: &mut [u64; 128], rights: &mut [u64; 128], n: usize, cells: u64, w: u64) -> Grown
-    requires { ⌜ TableRoom (now lefts) (now rights) n ⌝ }
-    ensures { λ r. ⌜ Put (now (lefts .entry)) (now (rights .entry)) n cells w (now (lefts .exit)) (now (rights .exit)) r ⌝ }
+// Puts the tips of the cells with the set w into a table of n classes, but for those that it covers, if there is room. The classes below `base` stay as
+// they are.
+pub fn put(
+    lefts: &mut [u64; 64],
+    rights: &mut [u64; 64],
+    base: usize,
+    n: usize,
+    cells: u64,
+    w: u64,
+) -> Grown
+    requires { ⌜ TableRoom (now lefts) (now rights) n × (base ≤ n) ⌝ }
+    ensures { λ r. ⌜ Put (now (lefts .entry)) (now (rights .entry)) base n cells w (now (lefts .exit)) (now (rights .exit)) r ⌝ }
 {
     let new = uncovered(lefts, rights, n, cells, w);
     if new == 0 {
@@ -113,29 +122,33 @@ pub fn put(lefts: &mut [u64; 128], rights: &mut [u64; 128], n: usize, cells: u64
             full: false,
         };
     }
-    let e = place(lefts, rights, n, w);
-    if e == 128 {
+    let e = place(lefts, rights, base, n, w);
+    if e == 64 {
         return Grown {
             count: n,
             full: true,
         };
     }
-    let count = join(lefts, rights, n, e, new, w);
-    narrow(lefts, rights, count, new, w);
+    let count = join(lefts, rights, base, n, e, new, w);
+    narrow(lefts, rights, base, count, new, w);
     Grown { count, full: false }
 }
 
-// Puts the tips (y, s cut with row y of z) of the cells y of a set into a table, as long as there is room: those with the same row at once.
+// Puts the tips of the cells y of a set into a table, as long as there is room: s cut with row y of z, as it is or widened. Those with the same row are
+// put at once. The classes below `base` stay as they are.
 pub fn grow(
     z: &[u64; 64],
-    lefts: &mut [u64; 128],
-    rights: &mut [u64; 128],
+    ends: &[u64; 128],
+    wide: bool,
+    lefts: &mut [u64; 64],
+    rights: &mut [u64; 64],
+    base: usize,
     n: usize,
     cells: u64,
     s: u64,
 ) -> Grown
-    requires { ⌜ TableRoom (now lefts) (now rights) n ⌝ }
-    ensures { λ r. ⌜ Grew (now (z .entry)) (now (lefts .entry)) (now (rights .entry)) n cells s (now (lefts .exit)) (now (rights .exit)) r ⌝ }
+    requires { ⌜ TableRoom (now lefts) (now rights) n × (base ≤ n) ⌝ }
+    ensures { λ r. ⌜ Grew (now (z .entry)) (now (ends .entry)) wide (now (lefts .entry)) (now (rights .entry)) base n cells s (now (lefts .exit)) (now (rights .exit)) r ⌝ }
 {
     let mut count = n;
     let mut left = cells;
@@ -143,7 +156,8 @@ pub fn grow(
         let y = words::lowest(left);
         let row = z[y as usize];
         let mates = rowmates(z, left, row);
-        let p = put(lefts, rights, count, mates, words::meet(s, row));
+        let set = search_links::seen_as(ends, wide, words::meet(s, row));
+        let p = put(lefts, rights, base, count, mates, set);
         if p.full {
             return Grown { count, full: true };
         }

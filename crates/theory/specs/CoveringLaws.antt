@@ -1,8 +1,10 @@
 -- Covering: which paths a search for two that fail may leave out. For a pair (a, b), of a path from a only its tip counts: the node where it ends, and
 -- the set of the nodes where the paths from b that are alike to it end. A path covers those with its end that are no shorter and whose set has all of
 -- its own: it fails wherever they do. So paths that cover all of at most c links decide the clause for two paths (`kept-enough`), such are found link by
--- link (`levels-cover`), and of two failing paths with fewest links in all neither is covered by a shorter one (`fewest-fresh`).
--- For any graphs and any bound. No code rests on this file yet: it is what a search cites that leaves covered paths out.
+-- link (`levels-cover`), and of two failing paths with fewest links in all neither is covered by a shorter one (`fewest-fresh`): such two are found, with just
+-- these lengths, among the paths that are kept (`kept-first`). That is why a search by levels may leave out of a level whatever a level below covers.
+-- For any graphs and any bound. The search says the same of links in lists and sets in words (`search_levels`, proofs/Deciding), since it holds of lists that
+-- belong to no graph too.
 use mathlib.Core.Bool.{So, false≢true, not-eq-not}
 use mathlib.Core.Logic.{_↔_}
 use mathlib.Core.List.{[], _∷_, _++_, append-nil, append-assoc}
@@ -87,6 +89,17 @@ module _ {l r : Graph} {c : ℕ} {z : Relation} {a b : ℕ} {Kept : Path → Typ
       let (q′, j, v, k) = n .each q (f .walk′) (f .short′) in
       let (g, m) = covers-fails h k w v f in
       (p′, q′, i, j, g, m)
+
+  -- Of two that fail with fewest links in all, two kept ones fail that are just as long: what is left out changes no lengths at which something fails first.
+  pub kept-first : Enough l r c z a b Kept → (t : Comparison) (p q : Path) → PathsFail l r c z a b t p q
+      → ((s v : Path) → PathsFail l r c z a b t s v → length p + length q ≤ length s + length v)
+      → (p′ : Path) × (q′ : Path) × Kept p′ × Kept q′ × PathsFail l r c z a b t p′ q′ × (length p′ ≡ length p) × (length q′ ≡ length q)
+  kept-first n t p q f least =
+      let (p′, i, w, h) = n .each p (f .walk) (f .short) in
+      let (q′, j, v, k) = n .each q (f .walk′) (f .short′) in
+      let (g, _) = covers-fails h k w v f in
+      let (e, d) = fewest-fresh f least h k w v in
+      (p′, q′, i, j, g, e, d)
 
   -- So the clause for two paths holds exactly when no two kept ones fail.
   pub kept-enough : Enough l r c z a b Kept

@@ -19,7 +19,7 @@ add-place : tie.Need-add-place
 add-place c = let p = c .before .before .before .before .before .before .before .before .pre in omega (arith, place-small (p .1) (p .0))
 
 reason-for-requires : tie.Need-reason-for-requires
-reason-for-requires c κs = let p = c .before .before .before .before .before .before .before .before .pre in (ahead-ready (p .1) (p .0), bounded (p .1) (p .0), ahead-valued (p .1) (p .0))
+reason-for-requires c κs = let p = c .before .before .before .before .before .before .before .before .pre in (ahead-ready (p .1) (p .0), bounded (p .1) (p .0), back-valued (p .1) (p .0), ahead-valued (p .1) (p .0))
 
 part-requires : tie.Need-part-requires
 part-requires c κs = let p = c .before .before .before .before .before .before .before .before .before .before .before .before .before .before .before .pre in ahead-fits (p .1) (p .0) _ (c .before .before .before .before .before .before .reason-for .ensures) (c .before .before .before .before .if1 .taken)
@@ -49,7 +49,7 @@ returns-3 : tie.Need-returns-3
 returns-3 c = let p = c .before .before .before .before .before .before .before .before .before .before .before .before .pre in covered-goes (p .1) (p .0) _ (c .before .before .before .reason-for .ensures) (not-true _ (c .if3 .taken)) (c .before .if1 .left)
 
 reason-for-requires-2 : tie.Need-reason-for-requires-2
-reason-for-requires-2 c κs = let p = c .before .before .before .before .before .before .before .before .before .before .before .before .pre in (back-ready (p .1) (p .0), bounded (p .1) (p .0), back-valued (p .1) (p .0))
+reason-for-requires-2 c κs = let p = c .before .before .before .before .before .before .before .before .before .before .before .before .pre in (back-ready (p .1) (p .0), bounded (p .1) (p .0), ahead-valued (p .1) (p .0), back-valued (p .1) (p .0))
 
 part-requires-2 : tie.Need-part-requires-2
 part-requires-2 c κs = let p = c .before .before .before .before .before .before .before .before .before .before .before .before .before .before .before .before .before .before .pre in back-fits (p .1) (p .0) _ (c .before .before .before .before .before .before .before .before .before .reason-for .ensures) (c .before .before .before .before .before .before .before .if1 .left) _ (c .before .before .before .before .before .reason-for2 .ensures) (c .before .before .before .if4 .taken)

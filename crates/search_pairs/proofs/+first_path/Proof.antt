@@ -19,16 +19,16 @@ use Rattle.search_pairs.proofs.no_links.Reads as no-links-reads
 use Rattle.search_pairs.proofs.+first_path.{statement}
 use Rattle.search_pairs.proofs.+first_path.Tie.{close}
 
-abbrev μ-first-path : Measures 12 first-path-kinds.ps ℕ
-μ-first-path κs a = a .1 .1 .1 .1 .1 .1 .1 .1 .1 .1 .1 .1 .1 .0
+abbrev μ-first-path : Measures 11 first-path-kinds.ps ℕ
+μ-first-path κs a = a .1 .1 .1 .1 .1 .1 .1 .1 .1 .1 .1 .0
 
-abbrev first-path-at : ℕ → In 12 first-path-kinds.ps
+abbrev first-path-at : ℕ → In 11 first-path-kinds.ps
 first-path-at t =
-    and 12 first-path-kinds.ps (is 12 first-path-kinds.ps μ-first-path t) first-path.Pre
+    and 11 first-path-kinds.ps (is 11 first-path-kinds.ps μ-first-path t) first-path.Pre
 
-abbrev first-path-below : ℕ → In 12 first-path-kinds.ps
+abbrev first-path-below : ℕ → In 11 first-path-kinds.ps
 first-path-below t =
-    and 12 first-path-kinds.ps (falls 12 first-path-kinds.ps _<_ μ-first-path t) first-path.Pre
+    and 11 first-path-kinds.ps (falls 11 first-path-kinds.ps _<_ μ-first-path t) first-path.Pre
 
 -- what the functions that it calls ask and promise
 abbrev given : ℕ → first-path-lts.Claims

@@ -19,7 +19,7 @@ seek-requires : tie.Need-seek-requires
 seek-requires c κs = search needs
 
 returns : tie.Need-returns
-returns c = told-one _ _ _ _ _ _ _ _ _ _ (replicate 128 0) (replicate 128 0) _ _ _ (c .before .before .before .only .ensures) refl refl (c .before .before .before .before .pre .1) _ _ (c .seek .ensures)
+returns c = told-one _ _ _ _ _ _ _ _ _ _ (replicate 64 0) (replicate 64 0) _ _ _ (c .before .before .before .only .ensures) refl refl (c .before .before .before .before .pre .1) _ _ (c .seek .ensures)
 
 pub leads-on-spec : {M : Type 1} → statement M
 leads-on-spec =

@@ -11,13 +11,13 @@ use Rattle.search_pairs.proofs.two_tips.Statement.{statement}
 use Rattle.search_pairs.proofs.two_tips.Tie as tie
 
 abbrev Inv-loop : tie.InvT-loop
-Inv-loop ea eb pl pr pn ql qr qn found₀ p same differ q₀ found q = (pn ≤ 128) × (qn ≤ 128) × (found ≡ false) × (p < pn) × (q ≤ qn) × (same ≡ wantedOf ea eb 0 (getD pl p 0) (getD pr p 0)) × (differ ≡ wantedOf ea eb 1 (getD pl p 0) (getD pr p 0)) × Rows ea eb pl pr ql qr qn p × Row ea eb pl pr ql qr p q
+Inv-loop ea eb pl pr pn ql qr qn found₀ p same differ q₀ found q = (pn ≤ 64) × (qn ≤ 64) × (found ≡ false) × (p < pn) × (q ≤ qn) × (same ≡ wantedOf ea eb 0 (getD pl p 0) (getD pr p 0)) × (differ ≡ wantedOf ea eb 1 (getD pl p 0) (getD pr p 0)) × Rows ea eb pl pr ql qr qn p × Row ea eb pl pr ql qr p q
 
 abbrev μ-loop : tie.MeasureT-loop
 μ-loop ea eb pl pr pn ql qr qn found₀ p same differ q₀ found q = qn - q
 
 abbrev Inv-search : tie.InvT-search
-Inv-search ea eb pl pr pn ql qr qn found₀ p₀ found p = (pn ≤ 128) × (qn ≤ 128) × (found ≡ false) × (p ≤ pn) × Rows ea eb pl pr ql qr qn p
+Inv-search ea eb pl pr pn ql qr qn found₀ p₀ found p = (pn ≤ 64) × (qn ≤ 64) × (found ≡ false) × (p ≤ pn) × Rows ea eb pl pr ql qr qn p
 
 abbrev μ-search : tie.MeasureT-search
 μ-search ea eb pl pr pn ql qr qn found₀ p₀ found p = pn - p

@@ -1,19 +1,20 @@
+-- `search_steps::fill` meets its contract. The invariant: the table covers the tips by the classes and labels passed.
 use native.Mathlib.Omega.{arith}
 use mathlib.Core.Path.{_≡_, refl}
 use Prim.Native.Nat.{_-_, _≤_}
 use lib.ListN.{length}
 use Rattle.search_links.specs.Hops.{viewOf, Opened}
-use Rattle.search_steps.specs.Tables.{Unites}
-use Rattle.search_steps.proofs.Exits.{Filling, filling-start, filling-next, filling-full, filling-end}
+use Rattle.search_steps.specs.Tables.{everyLabel, Unites}
+use Rattle.search_steps.proofs.Exits.{opened-bounded, Filling, filling-start, filling-next, filling-full, filling-end}
 use borrow.Author.Needs.{needs}
 use Rattle.search_steps.proofs.fill.Statement.{statement}
 use Rattle.search_steps.proofs.fill.Tie as tie
 
 abbrev Inv-loop : tie.InvT-loop
-Inv-loop sa la ta sb lb tb z labels many lefts rights n at ends₀ sets₀ here there rows₀ count₀ i₀ from₀ ends sets rows count i from = Opened sa ta × Opened sb tb × (many ≤ 512) × (n ≤ 128) × Unites lefts n here × Unites rights n there × (length rows ≡ 128) × Filling (viewOf sa la ta) (viewOf sb lb tb) z labels many lefts rights n at ends sets count i from
+Inv-loop sa la ta sb lb tb eb z wide lefts rights first n at ends₀ sets₀ base count here there rows₀ total₀ label₀ from₀ ends sets rows total label from = Opened sa ta × Opened sb tb × (n ≤ 64) × Unites lefts first n here × Unites rights first n there × (length rows ≡ 128) × Filling (viewOf sa la ta) (viewOf sb lb tb) z eb wide lefts rights first n at ends₀ sets₀ base count ends sets total label from
 
 abbrev μ-loop : tie.MeasureT-loop
-μ-loop sa la ta sb lb tb z labels many lefts rights n at ends₀ sets₀ here there rows₀ count₀ i₀ from₀ ends sets rows count i from = many - i
+μ-loop sa la ta sb lb tb eb z wide lefts rights first n at ends₀ sets₀ base count here there rows₀ total₀ label₀ from₀ ends sets rows total label from = everyLabel - label
 
 union-of-requires : tie.Need-union-of-requires Inv-loop μ-loop
 union-of-requires c κs = search needs
@@ -21,53 +22,53 @@ union-of-requires c κs = search needs
 union-of-requires-2 : tie.Need-union-of-requires-2 Inv-loop μ-loop
 union-of-requires-2 c κs = search needs
 
+next-label-requires : tie.Need-next-label-requires Inv-loop μ-loop
+next-label-requires c κs = (search opened-bounded, omega arith)
+
+begin-requires : tie.Need-begin-requires Inv-loop μ-loop
+begin-requires c κs = search needs
+
 loop-holds : tie.Need-loop-holds Inv-loop μ-loop
-loop-holds c = (search needs, search needs, search needs, search needs, search needs, search needs, search needs, search filling-start)
+loop-holds c = (search needs, search needs, search needs, search needs, search needs, search needs, search filling-start)
 
-mul-put-rows : tie.Need-mul-put-rows Inv-loop μ-loop
-mul-put-rows c = search needs
-
-element-copy-out-put-rows : tie.Need-element-copy-out-put-rows Inv-loop μ-loop
-element-copy-out-put-rows c = search needs
+cast-put-rows : tie.Need-cast-put-rows Inv-loop μ-loop
+cast-put-rows c = search needs
 
 put-rows-requires : tie.Need-put-rows-requires Inv-loop μ-loop
 put-rows-requires c κs = (search needs, omega arith, search needs)
 
-mul-put-rows-2 : tie.Need-mul-put-rows-2 Inv-loop μ-loop
-mul-put-rows-2 c = search needs
-
-element-copy-out-put-rows-2 : tie.Need-element-copy-out-put-rows-2 Inv-loop μ-loop
-element-copy-out-put-rows-2 c = search needs
+cast-put-rows-2 : tie.Need-cast-put-rows-2 Inv-loop μ-loop
+cast-put-rows-2 c = search needs
 
 put-rows-requires-2 : tie.Need-put-rows-requires-2 Inv-loop μ-loop
 put-rows-requires-2 c κs = (search needs, omega arith, search needs)
 
 fill-label-requires : tie.Need-fill-label-requires Inv-loop μ-loop
-fill-label-requires c κs = search needs
+fill-label-requires c κs = (search needs, search needs, search needs)
 
-mul-t36 : tie.Need-mul-t36 Inv-loop μ-loop
-mul-t36 c = omega arith
+mul-t35 : tie.Need-mul-t35 Inv-loop μ-loop
+mul-t35 c = omega arith
 
-add-t37 : tie.Need-add-t37 Inv-loop μ-loop
-add-t37 c = omega (arith, c .before .before .fill-label .ensures .full (c .before .if1 .taken) .0)
+add-t36 : tie.Need-add-t36 Inv-loop μ-loop
+add-t36 c = omega (arith, c .before .before .fill-label .ensures .full (c .before .if1 .taken) .0)
 
 returns : tie.Need-returns Inv-loop μ-loop
-returns c = filling-full _ _ _ _ _ _ _ _ _ _ _ _ _ _ (c .before .before .before .before .before .before .before .before .before .before .before .before .before .loop .inv .7) (c .before .before .before .before .before .before .before .before .before .before .before .before .before .loop .inv .3) _ _ (c .before .before .before .before .before .before .before .before .before .before .before .before .before .loop .inv .4) (c .before .before .before .before .before .before .before .before .before .before .before .before .before .loop .inv .5) _ _ _ _ refl (c .before .before .before .before .before .before .before .before .before .put-rows .ensures) (c .before .before .before .before .before .before .put-rows2 .ensures) (c .before .before .before .before .before .before .before .before .before .before .before .before .loop-test .taken) _ _ _ (c .before .before .fill-label .ensures) (c .before .before .before .before .before .before .before .before .before .before .before .before .before .loop .inv .0) (c .before .if1 .taken) _ refl refl
+returns c = filling-full _ _ _ _ _ _ _ _ _ _ _ _ _ _ (c .before .before .before .before .before .before .before .before .before .before .before .loop .inv .2) _ (c .before .before .before .before .before .before .before .before .before .before .before .loop .inv .3) _ _ _ _ _ (c .before .before .before .before .before .before .before .before .before .before .before .loop .inv .6) _ (c .before .before .before .before .before .before .before .before .before .before .before .loop .inv .4) _ _ _ _ refl (c .before .before .before .before .before .before .before .before .put-rows .ensures) (c .before .before .before .before .before .before .put-rows2 .ensures) (c .before .before .before .before .before .before .before .before .before .before .loop-test .taken) _ _ _ (c .before .before .fill-label .ensures) (c .before .before .before .before .before .before .before .before .before .before .before .loop .inv .0) (c .before .if1 .taken) _ refl refl
 
-add-i : tie.Need-add-i Inv-loop μ-loop
-add-i c = search needs
+add-next-label : tie.Need-add-next-label Inv-loop μ-loop
+add-next-label c = omega arith
+
+next-label-requires-2 : tie.Need-next-label-requires-2 Inv-loop μ-loop
+next-label-requires-2 c κs = (opened-bounded _ _ (c .before .before .before .before .before .before .before .before .before .before .loop .inv .0), omega arith)
 
 loop-less : tie.Need-loop-less Inv-loop μ-loop
-loop-less c = search needs
+loop-less c = omega (arith, c .next-label2 .ensures .onward, c .next-label2 .ensures .most)
 
 loop-again : tie.Need-loop-again Inv-loop μ-loop
-loop-again c = (search needs, search needs, search needs, search needs, search needs, search needs, search needs, filling-next _ _ _ _ _ _ _ _ _ _ _ _ _ _ (c .before .before .before .before .before .before .before .before .before .before .before .before .loop .inv .7) (c .before .before .before .before .before .before .before .before .before .before .before .before .loop .inv .3) _ _ (c .before .before .before .before .before .before .before .before .before .before .before .before .loop .inv .4) (c .before .before .before .before .before .before .before .before .before .before .before .before .loop .inv .5) _ _ _ _ refl (c .before .before .before .before .before .before .before .before .put-rows .ensures) (c .before .before .before .before .before .put-rows2 .ensures) (c .before .before .before .before .before .before .before .before .before .before .before .loop-test .taken) _ _ _ (c .before .fill-label .ensures) (c .before .before .before .before .before .before .before .before .before .before .before .before .loop .inv .0) (c .if1 .left))
-
-mul-t38 : tie.Need-mul-t38 Inv-loop μ-loop
-mul-t38 c = search needs
+loop-again c = (search needs, search needs, search needs, search needs, search needs, search needs, filling-next _ _ _ _ _ _ _ _ _ _ _ _ _ _ (c .before .before .before .before .before .before .before .before .before .before .before .loop .inv .2) _ (c .before .before .before .before .before .before .before .before .before .before .before .loop .inv .3) _ _ _ _ _ (c .before .before .before .before .before .before .before .before .before .before .before .loop .inv .6) _ (c .before .before .before .before .before .before .before .before .before .before .before .loop .inv .4) _ _ _ _ refl (c .before .before .before .before .before .before .before .before .put-rows .ensures) (c .before .before .before .before .before .before .put-rows2 .ensures) (c .before .before .before .before .before .before .before .before .before .before .loop-test .taken) _ _ _ (c .before .before .fill-label .ensures) (c .before .before .before .before .before .before .before .before .before .before .before .loop .inv .0) (c .before .if1 .left) _ (c .next-label2 .ensures))
 
 returns-2 : tie.Need-returns-2 Inv-loop μ-loop
-returns-2 c = filling-end _ _ _ _ _ _ _ _ _ _ _ _ _ _ (c .before .loop .inv .7) (c .before .loop .inv .3) (c .loop-test .left) _ refl refl
+returns-2 c = filling-end _ _ _ _ _ _ _ _ _ _ _ _ _ _ (c .before .loop .inv .2) _ (c .before .loop .inv .3) _ _ _ _ _ (c .before .loop .inv .6) (c .loop-test .left) _ refl refl
 
 pub fill-spec : {M : Type 1} → statement M
 fill-spec =
@@ -77,19 +78,19 @@ fill-spec =
     μ-loop
     union-of-requires
     union-of-requires-2
+    next-label-requires
+    begin-requires
     loop-holds
-    mul-put-rows
-    element-copy-out-put-rows
+    cast-put-rows
     put-rows-requires
-    mul-put-rows-2
-    element-copy-out-put-rows-2
+    cast-put-rows-2
     put-rows-requires-2
     fill-label-requires
-    mul-t36
-    add-t37
+    mul-t35
+    add-t36
     returns
-    add-i
+    add-next-label
+    next-label-requires-2
     loop-less
     loop-again
-    mul-t38
     returns-2)

@@ -5,10 +5,10 @@ use Rattle.search_tables.proofs.grow.Statement.{statement}
 use Rattle.search_tables.proofs.grow.Tie as tie
 
 abbrev Inv-loop : tie.InvT-loop
-Inv-loop z lefts₀ rights₀ n cells s count₀ left₀ lefts rights count left = Growing z lefts₀ rights₀ n cells s lefts rights count left
+Inv-loop z ends wide lefts₀ rights₀ base n cells s count₀ left₀ lefts rights count left = Growing z ends wide lefts₀ rights₀ base n cells s lefts rights count left
 
 abbrev μ-loop : tie.MeasureT-loop
-μ-loop z lefts₀ rights₀ n cells s count₀ left₀ lefts rights count left = left
+μ-loop z ends wide lefts₀ rights₀ base n cells s count₀ left₀ lefts rights count left = left
 
 loop-holds : tie.Need-loop-holds Inv-loop μ-loop
 loop-holds c = search growing-start
@@ -30,6 +30,9 @@ rowmates-requires c κs = search needs
 
 meet-requires : tie.Need-meet-requires Inv-loop μ-loop
 meet-requires c κs = search needs
+
+seen-as-requires : tie.Need-seen-as-requires Inv-loop μ-loop
+seen-as-requires c κs = search needs
 
 put-requires : tie.Need-put-requires Inv-loop μ-loop
 put-requires c κs = search needs
@@ -62,6 +65,7 @@ grow-spec =
     element-copy-out-row
     rowmates-requires
     meet-requires
+    seen-as-requires
     put-requires
     returns
     minus-requires

@@ -9,13 +9,13 @@ use Rattle.search_tables.proofs.narrow.Statement.{statement}
 use Rattle.search_tables.proofs.narrow.Tie as tie
 
 abbrev Inv-loop : tie.InvT-loop
-Inv-loop lefts₀ rights n cells w e₀ lefts e = (e ≤ n) × Narrowed lefts₀ rights n cells w lefts
+Inv-loop lefts₀ rights base n cells w e₀ lefts e = (base ≤ e) × (e ≤ n) × Narrowed lefts₀ rights base n cells w lefts
 
 abbrev μ-loop : tie.MeasureT-loop
-μ-loop lefts₀ rights n cells w e₀ lefts e = n - e
+μ-loop lefts₀ rights base n cells w e₀ lefts e = n - e
 
 loop-holds : tie.Need-loop-holds Inv-loop μ-loop
-loop-holds c = (omega arith, search narrowed-start)
+loop-holds c = (omega arith, omega arith, search narrowed-start)
 
 mul-set : tie.Need-mul-set Inv-loop μ-loop
 mul-set c = search needs
@@ -50,8 +50,8 @@ loop-less c = search needs
 loop-again : tie.Need-loop-again Inv-loop μ-loop
 loop-again c =
     ⊎-elim
-    (λ w. (omega arith, rw (w .5) (search narrowed-next)))
-    (⊎-elim (λ w. (omega arith, rw (w .3) (search needs))) (λ w. (omega arith, rw (w .1) (search needs))))
+    (λ w. (omega arith, omega arith, rw (w .5) (search narrowed-next)))
+    (⊎-elim (λ w. (omega arith, omega arith, rw (w .3) (search needs))) (λ w. (omega arith, omega arith, rw (w .1) (search needs))))
     (c .if1 .came)
 
 returns : tie.Need-returns Inv-loop μ-loop

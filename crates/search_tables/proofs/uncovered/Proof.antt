@@ -9,7 +9,7 @@ use Rattle.search_tables.proofs.uncovered.Statement.{statement}
 use Rattle.search_tables.proofs.uncovered.Tie as tie
 
 abbrev Inv-loop : tie.InvT-loop
-Inv-loop lefts rights n cells w left₀ e₀ left e = (e ≤ n) × (n ≤ 128) × Rest lefts rights n cells w left
+Inv-loop lefts rights n cells w left₀ e₀ left e = (e ≤ n) × (n ≤ 64) × Rest lefts rights n cells w left
 
 abbrev μ-loop : tie.MeasureT-loop
 μ-loop lefts rights n cells w left₀ e₀ left e = n - e
