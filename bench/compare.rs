@@ -204,13 +204,15 @@ impl Row {
     }
 }
 
-/// Calls the three by turns; each time library and plain version give the same map and sheet, and the library the same map in version 2.
+/// Calls the three by turns: the library on the books of one version, the plain version, the library on those of the other; the next time the other
+/// way round, so that in both versions the library comes as often after itself, when the processor knows what comes, as after the plain version.
+/// Each time library and plain version give the same map and sheet, and the library the same map in both versions.
 fn measure(sides: Sides, family: &Family, bound: usize) -> Row {
-    let [narrow, wide] =
+    let books =
         VERSIONS.map(|version| [&family.left, &family.right].map(|book| book.bytes(version)));
     let pairs = family.left.cells() * family.right.cells();
-    let (mut by_library, mut by_plain) = (Lists::new(pairs, 1), Lists::new(pairs, 1));
-    let mut by_wide = Lists::new(pairs, 2);
+    let mut by_library = VERSIONS.map(|version| Lists::new(pairs, version));
+    let mut by_plain = Lists::new(pairs, VERSIONS[0]);
     let mut row = Row {
         pairs,
         calls: 0,
@@ -221,24 +223,29 @@ fn measure(sides: Sides, family: &Family, bound: usize) -> Row {
     };
     let mut all = Duration::ZERO;
     let plain = plain_compare::compare::<PLACES>;
-    let call = |compare: Compare, [left, right]: &[Vec<u8>; 2], lists: &mut Lists| {
+    let call = |compare: Compare, version: usize, lists: &mut Lists| {
+        let [left, right] = &books[version];
         timed(compare, sides, left, right, bound, lists)
     };
     while row.calls < row.least() || all < MEASURED && row.calls < MOST {
-        let (of_library, time) = call(library::compare, &narrow, &mut by_library);
-        let (of_plain, plain_time) = call(plain, &narrow, &mut by_plain);
-        let (of_wide, wide_time) = call(library::compare, &wide, &mut by_wide);
-        if of_library != of_plain || of_library.refusal != 0 || by_library != by_plain {
+        let (one, other) = [(0, 1), (1, 0)][row.calls % 2];
+        let mut of_library = [(accepted(0, 0), Duration::ZERO); 2];
+        of_library[one] = call(library::compare, one, &mut by_library[one]);
+        let (of_plain, plain_time) = call(plain, 0, &mut by_plain);
+        of_library[other] = call(library::compare, other, &mut by_library[other]);
+        let [(answer, time), (of_wide, wide_time)] = of_library;
+        let [narrow, wide] = &by_library;
+        if answer != of_plain || answer.refusal != 0 || *narrow != by_plain {
             println!(
-                "bound {bound}: {of_library:?} and {of_plain:?}, or what is written, are not the same"
+                "bound {bound}: {answer:?} and {of_plain:?}, or what is written, are not the same"
             );
             std::process::exit(1);
         }
-        if of_wide.refusal != 0 || by_wide.map != by_library.map {
+        if of_wide.refusal != 0 || wide.map != narrow.map {
             println!("bound {bound}: {of_wide:?} in version 2, or another map");
             std::process::exit(1);
         }
-        row.answer = of_library;
+        row.answer = answer;
         row.library = row.library.min(time);
         row.plain = row.plain.min(plain_time);
         row.wide = row.wide.min(wide_time);

@@ -69,16 +69,25 @@ fn read(book: &[u8], hidden: u64) -> Graph {
 }
 
 impl Graph {
-    /// The cells that a link with the label leads to from cell x.
-    fn targets(&self, x: usize, label: u16) -> u64 {
+    /// The cells that a link with the label leads to from cell x; and the next label of its links, if it is below `best`. The links are in the order
+    /// of their labels.
+    fn row(&self, x: usize, label: u16, best: usize) -> (u64, usize) {
         let links = self.starts[x] as usize..self.starts[x + 1] as usize;
         let mut out = 0;
         for (&of_link, &to) in self.labels[links.clone()].iter().zip(&self.to[links]) {
+            if of_link > label {
+                return (out, best.min(of_link as usize));
+            }
             if of_link == label {
                 out |= 1 << to;
             }
         }
-        out
+        (out, best)
+    }
+
+    /// The cells that a link with the label leads to from cell x.
+    fn targets(&self, x: usize, label: u16) -> u64 {
+        self.row(x, label, 0).0
     }
 
     /// The cells that a link with the label leads to from a cell of the word.
@@ -91,13 +100,15 @@ impl Graph {
         out
     }
 
-    /// Writes for each cell of the word where the label leads to from it.
-    fn put_rows(&self, mut word: u64, label: u16, rows: &mut [u64; 64]) {
+    /// Writes for each cell of the word where the label leads to from it, and gives the next label of their links, as `next_label` does.
+    fn put_rows(&self, mut word: u64, label: u16, rows: &mut [u64; 64]) -> usize {
+        let mut next = EVERY_LABEL;
         while word != 0 {
             let x = word.trailing_zeros() as usize;
-            rows[x] = self.targets(x, label);
+            (rows[x], next) = self.row(x, label, next);
             word &= word - 1;
         }
+        next
     }
 
     /// The cells that at most so many links lead from to a cell of the word.
@@ -120,11 +131,9 @@ impl Graph {
         let mut out = EVERY_LABEL;
         while word != 0 {
             let x = word.trailing_zeros() as usize;
-            for &label in &self.labels[self.starts[x] as usize..self.starts[x + 1] as usize] {
-                let label = label as usize;
-                if least <= label && label < out {
-                    out = label;
-                }
+            let labels = &self.labels[self.starts[x] as usize..self.starts[x + 1] as usize];
+            if let Some(&label) = labels.iter().find(|&&label| least <= label as usize) {
+                out = out.min(label as usize);
             }
             word &= word - 1;
         }
@@ -440,7 +449,7 @@ impl<const PLACES: usize> Search<'_, PLACES> {
             first = first.max(at % ROOM);
         }
         while label < EVERY_LABEL {
-            self.one.put_rows(here, label as u16, &mut rows);
+            let next = self.one.put_rows(here, label as u16, &mut rows);
             self.other.put_rows(there, label as u16, &mut other_rows);
             for e in first..from.count {
                 let cells = passing(&rows, lefts[e]);
@@ -450,7 +459,7 @@ impl<const PLACES: usize> Search<'_, PLACES> {
                 }
             }
             first = from.first;
-            label = self.one.next_label(here, label + 1);
+            label = next;
         }
         LAST_PLACE
     }

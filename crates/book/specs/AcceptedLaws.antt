@@ -130,6 +130,11 @@ pub precedes-from : (j k : Link) → Precedes j k → j .from ≤ k .from
 precedes-from j k (inl h) = omega arith
 precedes-from j k (inr (e, h)) = omega arith
 
+pub precedes-label : (j k : Link) → Precedes j k → j .from ≡ k .from → j .label ≤ k .label
+precedes-label j k (inl h) e = absurd (omega arith)
+precedes-label j k (inr (_, inl h)) e = omega arith
+precedes-label j k (inr (_, inr (d, h))) e = omega arith
+
 -- ---- the links
 pub record Linked (s : List ℕ) (k : ℕ) : Type 0 where
   pub from : linkAt s k .from < cellsOf s

@@ -18,7 +18,7 @@ use Rattle.words.specs.Laws.{bit-zero}
 use Rattle.book.specs.Book.{versionOf, cellsOf, linksOf, recordingAt, linkAt, bookRefusal}
 use Rattle.book.specs.BookGraph.{passes, bookRecordings, bookLinks, graphOf, hides, showing, hidesBeyond, clear, kept, seenLinks, seenRecording, seenRecordings, seenOf}
 use Rattle.book.specs.Contents.{SameSeen}
-use Rattle.book.specs.AcceptedLaws.{book-inside, book-rises, precedes-from}
+use Rattle.book.specs.AcceptedLaws.{book-inside, book-rises, precedes-from, precedes-label}
 use Rattle.book.specs.RisingLaws.{Rising, rising-eq, rising-list, rising-at, member-list}
 use Rattle.book.specs.VersionLaws.{label-fits}
 
@@ -117,11 +117,16 @@ seen-label h s b x a y e =
 pub seen-rising : (h : ℕ) (s : List ℕ) → bookRefusal s ≡ 0 → Rising (seenLinks h s)
 seen-rising h s r = kept-rising (clear h) (bookLinks s) (rising-list (linksOf s) (linkAt s) (book-rises s r))
 
--- from cells do not fall
-pub seen-from : (h : ℕ) (s : List ℕ) → bookRefusal s ≡ 0 → (n : ℕ) (f : ℕ → Link) → list n f ≡ seenLinks h s
-    → (j k : ℕ) → j ≤ k → k < n → f j .from ≤ f k .from
-seen-from h s r n f e j k l m =
-    ⊎-elim (λ d. rw d (le-refl _)) (λ o. precedes-from _ _ (rising-at n f (rw e (seen-rising h s r)) j k o m)) (eq-or-lt-of-le l)
+module _ (h : ℕ) (s : List ℕ) (r : bookRefusal s ≡ 0) (n : ℕ) (f : ℕ → Link) (e : list n f ≡ seenLinks h s) (j k : ℕ) (l : j ≤ k) (m : k < n) where
+  -- from cells do not fall
+  pub seen-from : f j .from ≤ f k .from
+  seen-from =
+      ⊎-elim (λ d. rw d (le-refl _)) (λ o. precedes-from _ _ (rising-at n f (rw e (seen-rising h s r)) j k o m)) (eq-or-lt-of-le l)
+
+  -- nor do the labels of links out of one cell
+  pub seen-labels : f j .from ≡ f k .from → f j .label ≤ f k .label
+  seen-labels c =
+      ⊎-elim (λ d. rw d (le-refl _)) (λ o. precedes-label _ _ (rising-at n f (rw e (seen-rising h s r)) j k o m) c) (eq-or-lt-of-le l)
 
 -- ---- secrecy
 -- of accepted books that differ only in what is hidden, one graph is seen

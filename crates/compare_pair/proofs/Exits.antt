@@ -126,7 +126,7 @@ module _ {l r : Chart} {rows columns : List ℕ} {x : Lists} {here : Case} (open
         let h = place-inside g (st .before) _ _ (placeOf here) (at-place _ _ (st .round) (st .standing)) (in-left _ _ (st .round) (st .standing)) (in-right _ _ (st .round) (st .standing)) in
         omega (arith, h, mul-le-mul (g .small .0) (g .small .1))
 
-    pub ahead-ready : Ready (l .view .starts) (l .view .to) (r .view .starts) (r .view .to) (here .left .0) (here .right .0)
+    pub ahead-ready : Ready (l .view) (r .view) (here .left .0) (here .right .0)
     ahead-ready =
         charted-ready (st .round .ground .left) (st .round .ground .right) _ _ (in-left _ _ (st .round) (st .standing)) (in-right _ _ (st .round) (st .standing))
 
@@ -136,7 +136,7 @@ module _ {l r : Chart} {rows columns : List ℕ} {x : Lists} {here : Case} (open
     pub back-valued : Valued (l .ends)
     back-valued = st .round .ground .left .valued
 
-    pub back-ready : Ready (r .view .starts) (r .view .to) (l .view .starts) (l .view .to) (here .right .0) (here .left .0)
+    pub back-ready : Ready (r .view) (l .view) (here .right .0) (here .left .0)
     back-ready =
         charted-ready (st .round .ground .right) (st .round .ground .left) _ _ (in-right _ _ (st .round) (st .standing)) (in-left _ _ (st .round) (st .standing))
 

@@ -178,8 +178,8 @@ module _ {l r : Chart} {z : Sizes} where
         -- the lists can be gone through again
         pub opened-next : Opened (l .view .starts) (l .view .to) × Opened (r .view .starts) (r .view .to) × Mapped map′ (z .left) (z .right)
         opened-next = (
-          o .ground .left .opened,
-          o .ground .right .opened,
+          o .ground .left .ordered .opened,
+          o .ground .right .ordered .opened,
           sizes _ _ (o .ground) (next-round _ _ (o .ground) (o .standing) (o .known) dr dc goes),
         )
 

@@ -5,8 +5,7 @@ use mathlib.Core.List.{List}
 use Prim.Native.Nat.{ℕ, _+_, _^_, _≤_, _<_}
 use native.Mathlib.Nat.{eq-or-lt-of-le}
 use native.Mathlib.Omega.{arith}
-use lib.ListN.{getD}
-use Rattle.search_links.specs.Hops.{View, startOf, labelOf, toOf, total, Opened}
+use Rattle.search_links.specs.Hops.{View, startOf, labelOf, toOf}
 use Rattle.search_steps.specs.Paths.{stepWord}
 use Rattle.search.specs.Lengths.{Unanswered, Single}
 
@@ -36,11 +35,3 @@ module _ (v u : View) (z : List ℕ) (x y : ℕ) where
         where
           under : (j : ℕ) → j < k + 1 → j ≤ k
           under j m = omega arith
-
--- where the links out of a node end
-pub until-few : (starts to : List ℕ) (x e : ℕ) → Opened starts to → x < 64 → e ≡ getD starts (x + 1) 0 → e ≤ total starts
-until-few starts to x e o l d = omega (arith, o .within (x + 1) (omega arith))
-
--- a link that there is leads to a node that a word has room for
-pub link-low : (starts to : List ℕ) (k e y : ℕ) → Opened starts to → e ≤ total starts → k < e → y ≡ getD to k 0 → y < 64
-link-low starts to k e y o m l d = rw d (o .low k (omega arith))

@@ -12,8 +12,8 @@ use Rattle.search_cover.specs.Covering.{NoneFails}
 use Rattle.search_levels.specs.Depths.{Settled}
 use Rattle.search.specs.Lengths.{Ready, Total, Most, Finding}
 
-pub asked : (sa ta sb tb : List ℕ) (x y i j : ℕ) → Ready sa ta sb tb x y → i ≤ 4 → j ≤ 4 → Asked sa ta sb tb x y i j
-asked sa ta sb tb x y i j r li lj = record { left = r .left; right = r .right; cell = r .cell; partner = r .partner; first = li; second = lj }
+pub asked : (v u : View) (x y i j : ℕ) → Ready v u x y → i ≤ 4 → j ≤ 4 → Asked v u x y i j
+asked v u x y i j r li lj = record { left = r .left; right = r .right; cell = r .cell; partner = r .partner; first = li; second = lj }
 
 -- a number that is at most i is i or is below it
 under : (k i : ℕ) → k < i + 1 → k ≤ i

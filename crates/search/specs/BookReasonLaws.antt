@@ -21,7 +21,7 @@ use Rattle.edges.specs.BookEdges.{passingTo, passingRows, passing}
 use Rattle.edges.specs.BookLaws.{passing-rows}
 use Rattle.search_links.specs.Hops.{viewOf}
 use Rattle.search_links.specs.Sets.{rowAt, Valued}
-use Rattle.search_links.specs.BookHopLaws.{seen-opened, seen-out}
+use Rattle.search_links.specs.BookHopLaws.{seen-ordered, seen-out}
 use Rattle.search.specs.Reasons.{numberOf, Charted}
 use Rattle.search.specs.BookReasons.{Read}
 
@@ -109,6 +109,6 @@ module _ (h : ℕ) (s : List ℕ) (count : ℕ) (fs ls ts starts ends : List ℕ
           ∙ bit-wordOf-lt (cellsOf s) (seenOf h s .ends t x) y ly;
       symmetric = λ t x y. passes-symmetric t _ _;
     };
-    opened = seen-opened h s count fs ls ts starts (d .accepted) (d .loaded) (d .table);
+    ordered = seen-ordered h s count fs ls ts starts (d .accepted) (d .loaded) (d .table);
     valued = read-valued;
   }

@@ -26,10 +26,10 @@ use Rattle.search.specs.Reasons.{Charted, Posed, pathIn, reasonOf, choic
 
 -- ---- what the search asks, and what its answer is about
 module _ {l r : Graph} {v u : View} {ea eb : List ℕ} (left : Charted l v ea) (right : Charted r u eb) (a b : ℕ) (here : a < l .size) (there : b < r .size) where
-  pub charted-ready : Ready (v .starts) (v .to) (u .starts) (u .to) a b
+  pub charted-ready : Ready v u a b
   charted-ready = record {
-    left = left .opened;
-    right = right .opened;
+    left = left .ordered;
+    right = right .ordered;
     cell = omega (arith, left .drawn .small);
     partner = omega (arith, right .drawn .small);
   }

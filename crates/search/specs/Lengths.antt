@@ -3,15 +3,15 @@ use mathlib.Core.Path.{_≡_}
 use mathlib.Core.Logic.{_⊎_}
 use mathlib.Core.List.{List}
 use Prim.Native.Nat.{ℕ, _+_, _^_, _≤_, _<_}
-use Rattle.search_links.specs.Hops.{View, startOf, labelOf, toOf, Opened}
+use Rattle.search_links.specs.Hops.{View, startOf, labelOf, toOf, Ordered}
 use Rattle.search_steps.specs.Paths.{Leaves, stepWord}
 use Rattle.search_pairs.specs.declared.Pair.{Pair}
 use Rattle.search_pairs.specs.Pairs.{Clear, Shown}
 
 -- What the search asks: two books' lists, a cell of each.
-pub record Ready (sa ta sb tb : List ℕ) (x y : ℕ) : Type 0 where
-  pub left : Opened sa ta
-  pub right : Opened sb tb
+pub record Ready (v u : View) (x y : ℕ) : Type 0 where
+  pub left : Ordered v
+  pub right : Ordered u
   pub cell : x < 64
   pub partner : y < 64
 

@@ -11,7 +11,7 @@ use Rattle.theory.specs.Bisimulation.{Relation}
 use Rattle.theory.specs.Parting.{Reason as Cause, byLink, byPaths}
 use Rattle.theory.specs.Choosing.{Choice, none, some, Symmetric, chosen}
 use Rattle.words.specs.Words.{bit}
-use Rattle.search_links.specs.Hops.{View, hopAt, hopsOf, Opened}
+use Rattle.search_links.specs.Hops.{View, hopAt, hopsOf, Ordered}
 use Rattle.search_links.specs.Sets.{rowAt, Valued}
 use Rattle.search_steps.specs.Paths.{pathOf}
 use Rattle.search_pairs.specs.declared.Route.{Route}
@@ -30,10 +30,10 @@ pub record Drawn (g : Graph) (v : View) (ends : List ℕ) : Type 0 where
   pub rows : (t : Comparison) (x y : ℕ) → x < g .size → y < g .size → bit (rowAt ends (numberOf t) x) y ≡ g .ends t x y
   pub symmetric : Symmetric g
 
--- The lists show the graph, and can be gone through: the links out of each cell lie side by side, and comparisons go by a value.
+-- The lists show the graph, and can be gone through: the links out of each cell lie side by side, in the order of their labels, and comparisons go by a value.
 pub record Charted (g : Graph) (v : View) (ends : List ℕ) : Type 0 where
   pub drawn : Drawn g v ends
-  pub opened : Opened (v .starts) (v .to)
+  pub ordered : Ordered v
   pub valued : Valued ends
 
 -- The lists and rows show two graphs and a relation, and (a, b) is a pair of their nodes.

@@ -38,7 +38,7 @@ fn by_lengths(
     c: u8,
     s: u8,
 ) -> Pair
-    requires { ⌜ Ready (now sa) (now ta) (now sb) (now tb) x y × (c ≤ 4) × (s ≤ c + c) × Valued (now ea) × Valued (now eb) × Laid (now lefts) (now rights) levels × Standing (viewOf (now sa) (now la) (now ta)) (viewOf (now sb) (now lb) (now tb)) (now z) (now ea) (now eb) x y c (now lefts) (now rights) levels × Settled (viewOf (now sa) (now la) (now ta)) (viewOf (now sb) (now lb) (now tb)) (now z) (now ea) (now eb) x y c s ⌝ }
+    requires { ⌜ Ready (viewOf (now sa) (now la) (now ta)) (viewOf (now sb) (now lb) (now tb)) x y × (c ≤ 4) × (s ≤ c + c) × Valued (now ea) × Valued (now eb) × Laid (now lefts) (now rights) levels × Standing (viewOf (now sa) (now la) (now ta)) (viewOf (now sb) (now lb) (now tb)) (now z) (now ea) (now eb) x y c (now lefts) (now rights) levels × Settled (viewOf (now sa) (now la) (now ta)) (viewOf (now sb) (now lb) (now tb)) (now z) (now ea) (now eb) x y c s ⌝ }
     ensures { λ r. ⌜ Finding (viewOf (now (sa .entry)) (now (la .entry)) (now (ta .entry))) (viewOf (now (sb .entry)) (now (lb .entry)) (now (tb .entry))) (now (z .entry)) (now (ea .entry)) (now (eb .entry)) x y (Total c s) r ⌝ }
 {
     let mut i = 0u8;
@@ -88,7 +88,7 @@ fn by_total(
     y: u8,
     c: u8,
 ) -> Pair
-    requires { ⌜ Ready (now sa) (now ta) (now sb) (now tb) x y × (c ≤ 4) × Valued (now ea) × Valued (now eb) ⌝ }
+    requires { ⌜ Ready (viewOf (now sa) (now la) (now ta)) (viewOf (now sb) (now lb) (now tb)) x y × (c ≤ 4) × Valued (now ea) × Valued (now eb) ⌝ }
     ensures { λ r. ⌜ Finding (viewOf (now (sa .entry)) (now (la .entry)) (now (ta .entry))) (viewOf (now (sb .entry)) (now (lb .entry)) (now (tb .entry))) (now (z .entry)) (now (ea .entry)) (now (eb .entry)) x y (Most c) r ⌝ }
 {
     let mut lefts = [0u64; 64];
@@ -158,7 +158,7 @@ fn one_link(
     x: u8,
     y: u8,
 ) -> u16
-    requires { ⌜ Ready (now sa) (now ta) (now sb) (now tb) x y ⌝ }
+    requires { ⌜ Ready (viewOf (now sa) (now la) (now ta)) (viewOf (now sb) (now lb) (now tb)) x y ⌝ }
     ensures { λ r. ⌜ Single (viewOf (now (sa .entry)) (now (la .entry)) (now (ta .entry))) (viewOf (now (sb .entry)) (now (lb .entry)) (now (tb .entry))) (now (z .entry)) x y r ⌝ }
 {
     let partner = words::only(y);
@@ -191,7 +191,7 @@ pub fn reason_for(
     y: u8,
     c: u8,
 ) -> Reason
-    requires { ⌜ Ready (now sa) (now ta) (now sb) (now tb) x y × (c ≤ 4) × Valued (now ea) × Valued (now eb) ⌝ }
+    requires { ⌜ Ready (viewOf (now sa) (now la) (now ta)) (viewOf (now sb) (now lb) (now tb)) x y × (c ≤ 4) × Valued (now ea) × Valued (now eb) ⌝ }
     ensures { λ r. ⌜ Answered (viewOf (now (sa .entry)) (now (la .entry)) (now (ta .entry))) (viewOf (now (sb .entry)) (now (lb .entry)) (now (tb .entry))) (now (z .entry)) (now (ea .entry)) (now (eb .entry)) x y c r ⌝ }
 {
     let link = one_link(sa, la, ta, sb, lb, tb, z, x, y);

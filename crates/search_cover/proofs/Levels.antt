@@ -13,7 +13,7 @@ use lib.Seq.{getD-set-same, getD-set-other}
 use Rattle.theory.specs.TestLaws.{never, and-iff}
 use Rattle.words.specs.Words.{bit, Inside}
 use Rattle.words.specs.Laws.{bit-zero, bit-pow, bit-and}
-use Rattle.search_links.specs.Hops.{View, startOf, labelOf, toOf, Opened}
+use Rattle.search_links.specs.Hops.{View, startOf, labelOf, toOf}
 use Rattle.search_links.specs.Sets.{imageOf}
 use Rattle.search_tables.specs.Tips.{Has, Covered}
 use Rattle.search_tables.specs.Laws.{equal-or, inside-refl, covered-by-has, covered-wider, covered-trans}
@@ -121,9 +121,6 @@ module _ (ls rs : List ℕ) (y o l : ℕ) (h : Celled ls rs) (low : y < 64) (dl 
       part f = record { each = λ i b. let (p, q) = and-iff _ _ .0 (sym (bit-and (getD rs y 0) o i) ∙ ap (λ (w : ℕ). bit w i) (sym ds) ∙ b) in f i p q }
 
 -- ---- the links out of a node: the tips by those passed are covered
-pub link-low : (starts to : List ℕ) (x k e y : ℕ) → Opened starts to → x < 64 → e ≡ getD starts (x + 1) 0 → k < e → y ≡ getD to k 0 → y < 64
-link-low starts to x k e y o l d m dy = rw dy (o .low k (omega (arith, o .within (x + 1) (omega arith))))
-
 pub record Passed (v u : View) (z : List ℕ) (x w : ℕ) (ls rs ls′ rs′ : List ℕ) (k : ℕ) : Type 0 where
   pub celled : Celled ls′ rs′
   pub kept : (a o : ℕ) → Has ls rs 64 a o → Covered ls′ rs′ 64 a o

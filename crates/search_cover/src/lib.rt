@@ -3,7 +3,7 @@
 ghost use mathlib.Core.Bool.{true};
 ghost use mathlib.Core.Path.{_≡_};
 ghost use Prim.Native.Nat.{_<_};
-ghost use Rattle.search_links.specs.Hops.{viewOf, Opened};
+ghost use Rattle.search_links.specs.Hops.{viewOf, Ordered};
 ghost use Rattle.search_links.specs.Sets.{imageOf};
 ghost use Rattle.search_pairs.specs.Pairs.{Asked};
 ghost use Rattle.search_cover.specs.Covering.{Celled, Cut, BeyondTip, BeyondCells, NoneFails};
@@ -35,7 +35,7 @@ fn image_by(
     known: u16,
     image: u64,
 ) -> u64
-    requires { ⌜ Opened (now sb) (now tb) × (image ≡ imageOf (viewOf (now sb) (now lb) (now tb)) w known) ⌝ }
+    requires { ⌜ Ordered (viewOf (now sb) (now lb) (now tb)) × (image ≡ imageOf (viewOf (now sb) (now lb) (now tb)) w known) ⌝ }
     ensures { λ r. ⌜ r ≡ imageOf (viewOf (now (sb .entry)) (now (lb .entry)) (now (tb .entry))) w label ⌝ }
 {
     if label == known {
@@ -58,7 +58,7 @@ fn cut_links(
     lefts: &mut [u64; 64],
     rights: &mut [u64; 64],
 )
-    requires { ⌜ Opened (now sa) (now ta) × Opened (now sb) (now tb) × (x < 64) × Celled (now lefts) (now rights) ⌝ }
+    requires { ⌜ Ordered (viewOf (now sa) (now la) (now ta)) × Ordered (viewOf (now sb) (now lb) (now tb)) × (x < 64) × Celled (now lefts) (now rights) ⌝ }
     ensures { λ _. ⌜ BeyondTip (viewOf (now (sa .entry)) (now (la .entry)) (now (ta .entry))) (viewOf (now (sb .entry)) (now (lb .entry)) (now (tb .entry))) (now (z .entry)) x w (now (lefts .entry)) (now (rights .entry)) (now (lefts .exit)) (now (rights .exit)) ⌝ }
 {
     let until = sa[x as usize + 1];
@@ -90,7 +90,7 @@ fn cut_cells(
     lefts: &mut [u64; 64],
     rights: &mut [u64; 64],
 )
-    requires { ⌜ Opened (now sa) (now ta) × Opened (now sb) (now tb) × Celled (now l) (now r) × Celled (now lefts) (now rights) ⌝ }
+    requires { ⌜ Ordered (viewOf (now sa) (now la) (now ta)) × Ordered (viewOf (now sb) (now lb) (now tb)) × Celled (now l) (now r) × Celled (now lefts) (now rights) ⌝ }
     ensures { λ _. ⌜ BeyondCells (viewOf (now (sa .entry)) (now (la .entry)) (now (ta .entry))) (viewOf (now (sb .entry)) (now (lb .entry)) (now (tb .entry))) (now (z .entry)) (now (l .entry)) (now (r .entry)) 64 (now (lefts .entry)) (now (rights .entry)) (now (lefts .exit)) (now (rights .exit)) ⌝ }
 {
     let mut next = 0u8;
@@ -120,7 +120,7 @@ pub fn by_cells(
     y: u8,
     c: u8,
 ) -> bool
-    requires { ⌜ Asked (now sa) (now ta) (now sb) (now tb) x y c c ⌝ }
+    requires { ⌜ Asked (viewOf (now sa) (now la) (now ta)) (viewOf (now sb) (now lb) (now tb)) x y c c ⌝ }
     ensures { λ r. ⌜ ((r ≡ true) → NoneFails (viewOf (now (sa .entry)) (now (la .entry)) (now (ta .entry))) (viewOf (now (sb .entry)) (now (lb .entry)) (now (tb .entry))) (now (z .entry)) (now (ea .entry)) (now (eb .entry)) x y c) ⌝ }
 {
     let mut lefts = [0u64; 64];

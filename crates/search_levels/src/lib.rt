@@ -5,7 +5,7 @@ ghost use mathlib.Core.Bool.{true, false, cond};
 ghost use mathlib.Core.Path.{_≡_};
 ghost use Prim.Native.Nat.{_+_, _≤_, _<_};
 ghost use lib.ListN.{length};
-ghost use Rattle.search_links.specs.Hops.{viewOf, Opened};
+ghost use Rattle.search_links.specs.Hops.{viewOf, Ordered};
 ghost use Rattle.search_links.specs.Sets.{Valued};
 ghost use Rattle.search_tables.specs.Tips.{TableRoom};
 ghost use Rattle.search_pairs.specs.Pairs.{Asked, Sought};
@@ -35,7 +35,7 @@ fn gather(
     base: usize,
     n: usize,
 ) -> Grown
-    requires { ⌜ Opened (now sa) (now ta) × Opened (now sb) (now tb) × (m ≤ 64) × (more ≡ 0 → ⊥) × TableRoom (now lefts) (now rights) n × (base ≤ n) ⌝ }
+    requires { ⌜ Ordered (viewOf (now sa) (now la) (now ta)) × Ordered (viewOf (now sb) (now lb) (now tb)) × (m ≤ 64) × (more ≡ 0 → ⊥) × TableRoom (now lefts) (now rights) n × (base ≤ n) ⌝ }
     ensures { λ g. ⌜ Gathered (viewOf (now (sa .entry)) (now (la .entry)) (now (ta .entry))) (viewOf (now (sb .entry)) (now (lb .entry)) (now (tb .entry))) (now (z .entry)) (now (eb .entry)) wide (now (l .entry)) (now (r .entry)) first m more (now (lefts .entry)) (now (rights .entry)) base n (now (lefts .exit)) (now (rights .exit)) g ⌝ }
 {
     if more == 1 {
@@ -166,7 +166,7 @@ fn deepen(
     t: Levels,
     wide: bool,
 ) -> Levels
-    requires { ⌜ Opened (now sa) (now ta) × Opened (now sb) (now tb) × Laid (now lefts) (now rights) t × (t .known < 4) × (wide ≡ false → t .exact ≡ t .known) ⌝ }
+    requires { ⌜ Ordered (viewOf (now sa) (now la) (now ta)) × Ordered (viewOf (now sb) (now lb) (now tb)) × Laid (now lefts) (now rights) t × (t .known < 4) × (wide ≡ false → t .exact ≡ t .known) ⌝ }
     ensures { λ r. ⌜ Became (viewOf (now (sa .entry)) (now (la .entry)) (now (ta .entry))) (viewOf (now (sb .entry)) (now (lb .entry)) (now (tb .entry))) (now (z .entry)) (now (eb .entry)) (now (lefts .entry)) (now (rights .entry)) t (now (lefts .exit)) (now (rights .exit)) r × (r .known ≤ t .known + 1) ⌝ }
 {
     let l = *lefts;
@@ -240,7 +240,7 @@ fn reach(
     c: u8,
     small: bool,
 ) -> Levels
-    requires { ⌜ Opened (now sa) (now ta) × Opened (now sb) (now tb) × Laid (now lefts) (now rights) t × (n ≤ 4) ⌝ }
+    requires { ⌜ Ordered (viewOf (now sa) (now la) (now ta)) × Ordered (viewOf (now sb) (now lb) (now tb)) × Laid (now lefts) (now rights) t × (n ≤ 4) ⌝ }
     ensures { λ r. ⌜ Became (viewOf (now (sa .entry)) (now (la .entry)) (now (ta .entry))) (viewOf (now (sb .entry)) (now (lb .entry)) (now (tb .entry))) (now (z .entry)) (now (eb .entry)) (now (lefts .entry)) (now (rights .entry)) t (now (lefts .exit)) (now (rights .exit)) r ⌝ }
 {
     let mut at = t;
@@ -313,7 +313,7 @@ fn all_levels(
     y: u8,
     c: u8,
 ) -> Levels
-    requires { ⌜ Asked (now sa) (now ta) (now sb) (now tb) x y c c × Valued (now eb) × Laid (now lefts) (now rights) t × Standing (viewOf (now sa) (now la) (now ta)) (viewOf (now sb) (now lb) (now tb)) (now z) (now ea) (now eb) x y c (now lefts) (now rights) t ⌝ }
+    requires { ⌜ Asked (viewOf (now sa) (now la) (now ta)) (viewOf (now sb) (now lb) (now tb)) x y c c × Valued (now eb) × Laid (now lefts) (now rights) t × Standing (viewOf (now sa) (now la) (now ta)) (viewOf (now sb) (now lb) (now tb)) (now z) (now ea) (now eb) x y c (now lefts) (now rights) t ⌝ }
     ensures { λ r. ⌜ Laid (now (lefts .exit)) (now (rights .exit)) r × Standing (viewOf (now (sa .entry)) (now (la .entry)) (now (ta .entry))) (viewOf (now (sb .entry)) (now (lb .entry)) (now (tb .entry))) (now (z .entry)) (now (ea .entry)) (now (eb .entry)) x y c (now (lefts .exit)) (now (rights .exit)) r ⌝ }
 {
     let whole = reach(sa, la, ta, sb, lb, tb, eb, z, lefts, rights, t, c, c, false);
@@ -361,7 +361,7 @@ pub fn ready(
     c: u8,
     s: u8,
 ) -> Levels
-    requires { ⌜ Asked (now sa) (now ta) (now sb) (now tb) x y c c × Valued (now eb) × Laid (now lefts) (now rights) t × Standing (viewOf (now sa) (now la) (now ta)) (viewOf (now sb) (now lb) (now tb)) (now z) (now ea) (now eb) x y c (now lefts) (now rights) t ⌝ }
+    requires { ⌜ Asked (viewOf (now sa) (now la) (now ta)) (viewOf (now sb) (now lb) (now tb)) x y c c × Valued (now eb) × Laid (now lefts) (now rights) t × Standing (viewOf (now sa) (now la) (now ta)) (viewOf (now sb) (now lb) (now tb)) (now z) (now ea) (now eb) x y c (now lefts) (now rights) t ⌝ }
     ensures { λ r. ⌜ Laid (now (lefts .exit)) (now (rights .exit)) r × Standing (viewOf (now (sa .entry)) (now (la .entry)) (now (ta .entry))) (viewOf (now (sb .entry)) (now (lb .entry)) (now (tb .entry))) (now (z .entry)) (now (ea .entry)) (now (eb .entry)) x y c (now (lefts .exit)) (now (rights .exit)) r ⌝ }
 {
     if 3 < s {
@@ -409,7 +409,7 @@ pub fn pair_at(
     i: u8,
     j: u8,
 ) -> Pair
-    requires { ⌜ Asked (now sa) (now ta) (now sb) (now tb) x y i j × (i ≤ j) × (j ≤ c) × Valued (now ea) × Valued (now eb) × Laid (now lefts) (now rights) t × Standing (viewOf (now sa) (now la) (now ta)) (viewOf (now sb) (now lb) (now tb)) (now z) (now ea) (now eb) x y c (now lefts) (now rights) t × Settled (viewOf (now sa) (now la) (now ta)) (viewOf (now sb) (now lb) (now tb)) (now z) (now ea) (now eb) x y c (i + j) ⌝ }
+    requires { ⌜ Asked (viewOf (now sa) (now la) (now ta)) (viewOf (now sb) (now lb) (now tb)) x y i j × (i ≤ j) × (j ≤ c) × Valued (now ea) × Valued (now eb) × Laid (now lefts) (now rights) t × Standing (viewOf (now sa) (now la) (now ta)) (viewOf (now sb) (now lb) (now tb)) (now z) (now ea) (now eb) x y c (now lefts) (now rights) t × Settled (viewOf (now sa) (now la) (now ta)) (viewOf (now sb) (now lb) (now tb)) (now z) (now ea) (now eb) x y c (i + j) ⌝ }
     ensures { λ r. ⌜ Sought (viewOf (now (sa .entry)) (now (la .entry)) (now (ta .entry))) (viewOf (now (sb .entry)) (now (lb .entry)) (now (tb .entry))) (now (z .entry)) (now (ea .entry)) (now (eb .entry)) x y i j r ⌝ }
 {
     if t.known < j {

@@ -4,7 +4,7 @@ use mathlib.Core.Bool.{Bool, true, false, So, _&&_, _||_, or-false, or-assoc}
 use mathlib.Core.Path.{_≡_, refl, sym, ap, _∙_}
 use mathlib.Core.Logic.{inl, inr, ⊎-elim}
 use mathlib.Core.List.{List}
-use Prim.Native.Nat.{ℕ, suc, _+_, _-_, _*_, _^_, _≤_, _<_}
+use Prim.Native.Nat.{ℕ, zero, suc, _+_, _-_, _*_, _^_, _≤_, _<_}
 use native.Mathlib.Nat.{eq-or-lt-of-le}
 use native.Mathlib.Numerals.{add-one}
 use native.Mathlib.Omega.{arith}
@@ -14,11 +14,12 @@ use lib.Dec.{eqb}
 use lib.ListN.{length, getD, set, length-set}
 use lib.Seq.{getD-set-same, getD-set-other}
 use Rattle.theory.specs.Search.{any}
-use Rattle.theory.specs.TestLaws.{never, and-iff, or-iff, facts, test-eq}
+use Rattle.theory.specs.TestLaws.{never, le-or-lt, and-iff, or-iff, facts, test-eq}
 use Rattle.words.specs.Words.{bit, wordOf}
 use Rattle.words.specs.Laws.{bit-or, bit-zero, bit-pow, bit-without, wordOf-is, first-stop, first-end, first-next}
-use Rattle.search_links.specs.Hops.{View, labelOf, toOf, hopsFrom, Opened, lead, Starts}
+use Rattle.search_links.specs.Hops.{View, startOf, labelOf, toOf, hopsFrom, Opened, Ordered, Smaller, everyLabel, LeastLabel, lead, Starts}
 use Rattle.search_links.specs.Sets.{among, reached, meets, spread, Paired}
+use Rattle.search_links.specs.Laws.{until-few, link-low}
 use Rattle.search_links.specs.BookHopLaws.{lead-le, lead-rises}
 
 -- ---- the first link from a node or a later one
@@ -142,7 +143,53 @@ module _ (to : List ℕ) (w until from k : ℕ) (j : meets to w from (until - fr
   unfolding meets
   leads-none h = let e : until - k ≡ 0 = omega arith in sym (j ∙ ap (λ (n : ℕ). meets to w k n) e)
 
+-- ---- the labels of the links out of a node, which rise
+-- those of the links before k are below `least`
+pub record Under (v : View) (x least k : ℕ) : Type 0 where
+  pub from : startOf v x ≤ k
+  pub each : (j : ℕ) → startOf v x ≤ j → j < k → labelOf v j < least
+
+module _ (v : View) (x least : ℕ) where
+  pub under-start : (k : ℕ) → k ≡ startOf v x → Under v x least k
+  under-start k d = record { from = omega arith; each = λ j a b. absurd (omega arith) }
+
+  module _ (k : ℕ) (u : Under v x least k) where
+    pub under-next : (found : ℕ) → found ≡ labelOf v k → found < least → Under v x least (k + 1)
+    under-next found d l = record {
+      from = omega (arith, u .from);
+      each = λ j a b. ⊎-elim (λ e. let q = ap (λ (i : ℕ). labelOf v i) e in omega (arith, q)) (λ m. u .each j a m) (eq-or-lt-of-le (last j b));
+    }
+      where
+        last : (j : ℕ) → j < k + 1 → j ≤ k
+        last j b = omega arith
+
+    pub least-none : (until best : ℕ) → until ≡ startOf v (x + 1) → until ≤ k → LeastLabel v x least best best
+    least-none until best d h = record {
+      onward = λ l. l;
+      most = omega arith;
+      none = λ j a b l. absurd (omega (arith, u .each j a (omega arith)));
+      one = inl refl;
+    }
+
+    module _ (o : Ordered v) (low : x < 64) (until : ℕ) (d : until ≡ startOf v (x + 1)) (h : k < until) (found : ℕ) (is : found ≡ labelOf v k) (above : least ≤ found) where
+      -- those of the links from k on are not
+      pub above-on : (i : ℕ) → k ≤ i → i < until → least ≤ labelOf v i
+      above-on i p q = omega (arith, o .rising x k i low (u .from) p (omega arith))
+
+      pub least-found : (best r : ℕ) → found < everyLabel → Smaller found best r → LeastLabel v x least best r
+      least-found best r few m = record {
+        onward = λ l. ⊎-elim (λ e. omega arith) (λ e. omega arith) (m .one);
+        most = m .second;
+        none = λ j a b l. ⊎-elim (λ q. (omega (arith, m .first, o .rising x k j low (u .from) q b), omega (arith, m .first))) (λ q. absurd (omega (arith, u .each j a q))) (le-or-lt k j);
+        one = ⊎-elim (λ e. inr (k, u .from, omega arith, omega arith, sym (e ∙ is))) (λ e. inl e) (m .one);
+      }
+
 -- ---- the nodes that some links lead to
+among-none : (v : View) (a y n k : ℕ) → ((i : ℕ) → k ≤ i → i < k + n → labelOf v i ≡ a → ⊥) → among (hopsFrom v k n) a y ≡ false
+unfolding hopsFrom among
+among-none v a y zero k f = refl
+among-none v a y (suc n) k f = rw (ne-eqb (labelOf v k) a (f k (omega arith) (omega arith))) (among-none v a y n (suc k) (λ i p q. f i (omega arith) (omega arith)))
+
 module _ (v : View) (a until : ℕ) where
   abbrev pub onto : ℕ → ℕ → Bool
   onto k y = among (hopsFrom v k (until - k)) a y
@@ -157,20 +204,20 @@ module _ (v : View) (a until : ℕ) where
   targets-start from = joins-start (onto from)
 
   module _ (from out k : ℕ) (j : Joins out (onto k) (onto from)) where
-    pub targets-in : k < until → labelOf v k ≡ a → (r out′ : ℕ) → r ≡ bitOr out (2 ^ toOf v k) → out′ ≡ r → Joins out′ (onto (k + 1)) (onto from)
-    targets-in h e r out′ dr dout =
-        rw (dout, dr) (joins-more (onto from) out (2 ^ toOf v k) (onto k) (onto (k + 1)) j
-        (λ y m. step k y h ∙ rw (eq-eqb (labelOf v k) a e, bit-pow)))
+    module _ (h : k < until) (found : ℕ) (is : found ≡ labelOf v k) where
+      pub targets-in : found ≡ a → (r out′ : ℕ) → r ≡ bitOr out (2 ^ toOf v k) → out′ ≡ r → Joins out′ (onto (k + 1)) (onto from)
+      targets-in e r out′ dr dout =
+          rw (dout, dr) (joins-more (onto from) out (2 ^ toOf v k) (onto k) (onto (k + 1)) j
+          (λ y m. step k y h ∙ rw (eq-eqb (labelOf v k) a (sym is ∙ e), bit-pow)))
 
-    pub targets-skip : k < until → (labelOf v k ≡ a → ⊥) → (out′ : ℕ) → out′ ≡ out → Joins out′ (onto (k + 1)) (onto from)
-    targets-skip h f out′ dout =
-        rw dout (record { each = λ y m. ap (λ (b : Bool). bit out y || b) (sym (step k y h ∙ rw (ne-eqb (labelOf v k) a f))) ∙ j .each y m })
+      pub targets-skip : (found ≡ a → ⊥) → (out′ : ℕ) → out′ ≡ out → Joins out′ (onto (k + 1)) (onto from)
+      targets-skip f out′ dout =
+          rw dout (record { each = λ y m. ap (λ (b : Bool). bit out y || b) (sym (step k y h ∙ rw (ne-eqb (labelOf v k) a (λ e. f (is ∙ e))))) ∙ j .each y m })
 
-    pub targets-end : until ≤ k → out < 2 ^ 64 → out ≡ reached (hopsFrom v from (until - from)) a
-    unfolding reached hopsFrom among
-    targets-end h l =
-        let e : until - k ≡ 0 = omega arith in
-        joins-end (onto from) out (onto k) j (λ y. ap (λ (n : ℕ). among (hopsFrom v k n) a y) e) l
+    -- no link from k on has the label
+    pub targets-end : ((i : ℕ) → k ≤ i → i < until → labelOf v i ≡ a → ⊥) → out < 2 ^ 64 → out ≡ reached (hopsFrom v from (until - from)) a
+    unfolding reached
+    targets-end f l = joins-end (onto from) out (onto k) j (λ y. among-none v a y (until - k) k (λ i p q. f i p (omega arith))) l
 
 -- ---- the links up to where those out of a node end
 pub record Reach (ts : List ℕ) (until : ℕ) : Type 0 where
@@ -179,8 +226,7 @@ pub record Reach (ts : List ℕ) (until : ℕ) : Type 0 where
 
 pub reach-of : (starts ts : List ℕ) (x until : ℕ) → Opened starts ts → x < 64 → until ≡ getD starts (x + 1) 0 → Reach ts until
 reach-of starts ts x until o l d =
-    let h = o .within (x + 1) (omega arith) in
-    record { few = omega (arith, o .few); low = λ k m. o .low k (omega arith) }
+    record { few = until-few starts ts x until o l d; low = λ k m. link-low starts ts x k until _ o l d refl m }
 
 pub reach-low : (ts : List ℕ) (until k : ℕ) → Reach ts until → k < until → getD ts k 0 < 64
 reach-low ts until k r h = r .low k h

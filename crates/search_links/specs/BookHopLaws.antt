@@ -1,6 +1,6 @@
 -- The links of an accepted book, loaded and with their table of starts, are the hops of its graph.
 use mathlib.Core.Bool.{Bool, true, false, cond}
-use mathlib.Core.Path.{_≡_, refl, ap, ap₂, _∙_}
+use mathlib.Core.Path.{_≡_, refl, sym, ap, ap₂, _∙_}
 use mathlib.Core.List.{List, [], _∷_, _++_, append-nil}
 use mathlib.Core.Logic.{⊎-elim}
 use Prim.Native.Nat.{ℕ, zero, suc, _+_, _-_, _≤_, _<_}
@@ -16,10 +16,10 @@ use Rattle.theory.specs.Path.{Hop, hop, out}
 use Rattle.words.specs.Laws.{first-there, first-least, first-le}
 use Rattle.book.specs.Book.{bookRefusal}
 use Rattle.book.specs.BookGraph.{seenOf}
-use Rattle.book.specs.SeenLaws.{seen-from}
+use Rattle.book.specs.SeenLaws.{seen-from, seen-labels}
 use Rattle.edges.specs.Edges.{edgeAt, edges, Held}
 use Rattle.edges.specs.BookEdges.{Loaded}
-use Rattle.search_links.specs.Hops.{viewOf, hopAt, hopsFrom, hopsOf, Opened, lead, Starts}
+use Rattle.search_links.specs.Hops.{viewOf, hopAt, hopsFrom, hopsOf, Opened, Ordered, lead, Starts}
 
 -- ---- the first link from a node or a later one
 module _ (count : ℕ) (fs : List ℕ) (x : ℕ) where
@@ -99,7 +99,7 @@ module _ (fs ls ts : List ℕ) where
       whole : getD starts 64 0 ≡ count
       whole = t .each 64 (omega arith) ∙ lead-all
 
-      pub links-opened : Opened starts ts
+      links-opened : Opened starts ts
       links-opened = record {
         few = omega (arith, whole, held .few);
         within = λ x h. omega (arith, whole, t .each x (omega arith), lead-le count fs x);
@@ -107,11 +107,30 @@ module _ (fs ls ts : List ℕ) where
       }
 
       module _ (rising : (j k : ℕ) → j ≤ k → k < count → getD fs j 0 ≤ getD fs k 0) where
+        -- the links from the first out of node y on are from it or a later one
+        from-at : (y i : ℕ) → lead count fs y ≤ i → i < count → y ≤ getD fs i 0
+        from-at y i p q = omega (arith, lead-at count fs y (omega arith), rising (lead count fs y) i p q)
+
+        -- those out of node x are from it
+        from-is : (x i : ℕ) → x < 64 → getD starts x 0 ≤ i → i < getD starts (x + 1) 0 → getD fs i 0 ≡ x
+        from-is x i l p q =
+            let da = t .each x (omega arith) in
+            let db = t .each (x + 1) (omega arith) in
+            omega (arith, lead-below count fs (x + 1) i (omega arith), from-at x i (omega arith) (omega (arith, lead-le count fs (x + 1))))
+
+        pub links-ordered : ((j k : ℕ) → j ≤ k → k < count → getD fs j 0 ≡ getD fs k 0 → getD ls j 0 ≤ getD ls k 0) → Ordered (viewOf starts ls ts)
+        links-ordered labels = record {
+          opened = links-opened;
+          rising = λ x j k l p m q.
+              labels j k m (omega (arith, t .each (x + 1) (omega arith), lead-le count fs (x + 1)))
+              (from-is x j l p (omega arith) ∙ sym (from-is x k l (omega arith) q));
+        }
+
         pub links-out : (x : ℕ) → x < 64 → out (edges count fs ls ts) x ≡ hopsOf (viewOf starts ls ts) x
-        links-out x h = parts (getD starts x 0) (getD starts (x + 1) 0) (t .each x (omega arith)) (t .each (x + 1) (omega arith))
+        links-out x h = parts (getD starts x 0) (getD starts (x + 1) 0) refl refl (t .each x (omega arith)) (t .each (x + 1) (omega arith))
           where
-            parts : (a b : ℕ) → a ≡ lead count fs x → b ≡ lead count fs (x + 1) → out (edges count fs ls ts) x ≡ hopsFrom (viewOf starts ls ts) a (b - a)
-            parts a b da db =
+            parts : (a b : ℕ) → a ≡ getD starts x 0 → b ≡ getD starts (x + 1) 0 → a ≡ lead count fs x → b ≡ lead count fs (x + 1) → out (edges count fs ls ts) x ≡ hopsFrom (viewOf starts ls ts) a (b - a)
+            parts a b sa sb da db =
                 let l : b ≤ count = omega (arith, lead-le count fs (x + 1)) in
                 let m : a ≤ b = omega (arith, lead-rises count fs x) in
                 let e : count ≡ a + ((b - a) + (count - b)) = omega arith in
@@ -128,20 +147,17 @@ module _ (fs ls ts : List ℕ) where
                 before : (i : ℕ) → 0 ≤ i → i < 0 + a → getD fs i 0 ≡ x → ⊥
                 before i p q e = omega (arith, lead-below count fs x i (omega arith))
 
-                from-at : (y i : ℕ) → lead count fs y ≤ i → i < count → y ≤ getD fs i 0
-                from-at y i p q = omega (arith, lead-at count fs y (omega arith), rising (lead count fs y) i p q)
-
                 within : (i : ℕ) → a ≤ i → i < a + (b - a) → getD fs i 0 ≡ x
-                within i p q = omega (arith, lead-below count fs (x + 1) i (omega arith), from-at x i (omega arith) (omega (arith, lead-le count fs (x + 1))))
+                within i p q = from-is x i h (omega arith) (omega arith)
 
                 after : (i : ℕ) → b ≤ i → i < b + (count - b) → getD fs i 0 ≡ x → ⊥
                 after i p q e = omega (arith, from-at (x + 1) i (omega arith) (omega (arith, lead-le count fs (x + 1))))
 
 -- ---- an accepted book
 module _ (h : ℕ) (s : List ℕ) (count : ℕ) (fs ls ts starts : List ℕ) (r : bookRefusal s ≡ 0) (d : Loaded h s count fs ls ts) (t : Starts count fs starts) where
-  -- the search may read the links that are seen by number
-  pub seen-opened : Opened starts ts
-  seen-opened = links-opened fs ls ts starts count (d .held) t
+  -- the search may read the links that are seen by number, in order
+  pub seen-ordered : Ordered (viewOf starts ls ts)
+  seen-ordered = links-ordered fs ls ts starts count (d .held) t (seen-from h s r count (edgeAt fs ls ts) (d .is)) (seen-labels h s r count (edgeAt fs ls ts) (d .is))
 
   -- and finds the hops of the graph that is seen
   pub seen-out : (x : ℕ) → x < 64 → out (seenOf h s .links) x ≡ hopsOf (viewOf starts ls ts) x

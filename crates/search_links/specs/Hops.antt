@@ -1,5 +1,6 @@
 -- A graph's links by their numbers: where the links out of a node begin, and each link's label and the node that it leads to.
 use mathlib.Core.Path.{_≡_}
+use mathlib.Core.Logic.{_⊎_}
 use mathlib.Core.List.{List, [], _∷_}
 use Prim.Native.Nat.{ℕ, zero, suc, _+_, _-_, _≤_, _<_}
 use lib.Dec.{leb}
@@ -51,6 +52,28 @@ pub record Opened (starts to : List ℕ) : Type 0 where
   pub few : total starts ≤ 512
   pub within : (x : ℕ) → x ≤ 64 → getD starts x 0 ≤ total starts
   pub low : (k : ℕ) → k < total starts → getD to k 0 < 64
+
+-- The links may be read so, and those out of a node are in the order of their labels.
+pub record Ordered (v : View) : Type 0 where
+  pub opened : Opened (v .starts) (v .to)
+  pub rising : (x j k : ℕ) → x < 64 → startOf v x ≤ j → j ≤ k → k < startOf v (x + 1) → labelOf v j ≤ labelOf v k
+
+-- The smaller of two numbers.
+pub record Smaller (a b r : ℕ) : Type 0 where
+  pub first : r ≤ a
+  pub second : r ≤ b
+  pub one : (r ≡ a) ⊎ (r ≡ b)
+
+-- How many labels there can be: each is below.
+abbrev pub everyLabel : ℕ
+everyLabel = 65536
+
+-- Of the labels from `least` on of the links out of node x, and of `best`, the smallest.
+pub record LeastLabel (v : View) (x least best a : ℕ) : Type 0 where
+  pub onward : least ≤ best → least ≤ a
+  pub most : a ≤ best
+  pub none : (k : ℕ) → startOf v x ≤ k → k < startOf v (x + 1) → least ≤ labelOf v k → (a ≤ labelOf v k) × (a < everyLabel)
+  pub one : (a ≡ best) ⊎ ((k : ℕ) × (startOf v x ≤ k) × (k < startOf v (x + 1)) × (least ≤ a) × (labelOf v k ≡ a))
 
 -- Of `count` links, the first from node x or a later one.
 unfoldable pub lead : ℕ → List ℕ → ℕ → ℕ

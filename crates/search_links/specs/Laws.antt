@@ -1,10 +1,12 @@
--- What the words have in them, for callers.
+-- Where the lists lead, and what the words have in them, for callers.
 use mathlib.Core.Bool.{So, _&&_}
 use mathlib.Core.Path.{_≡_}
 use mathlib.Core.Logic.{_↔_, inl, inr}
 use mathlib.Core.List.{List, [], _∷_, List·Memᴰ, List·Memᴰ·not-nil}
-use Prim.Native.Nat.{ℕ, zero, suc, _^_, _<_}
+use Prim.Native.Nat.{ℕ, zero, suc, _+_, _^_, _≤_, _<_}
+use native.Mathlib.Omega.{arith}
 use lib.Dec.{eqb}
+use lib.ListN.{getD}
 use Rattle.theory.specs.Search.{any}
 use Rattle.theory.specs.TestLaws.{never, and-iff, or-iff, eqb-iff, sum-iff, cons-iff, test-eq}
 use Rattle.theory.specs.Graph.{Graph, linked}
@@ -12,9 +14,22 @@ use Rattle.theory.specs.Path.{Hop, hop, out}
 use Rattle.theory.specs.WalkLaws.{out-iff}
 use Rattle.words.specs.Words.{bit}
 use Rattle.words.specs.Laws.{bit-wordOf-lt, wordOf-lt}
-use Rattle.search_links.specs.Hops.{View, toOf, hopsFrom, hopsOf}
+use Rattle.search_links.specs.Hops.{View, toOf, hopsFrom, hopsOf, Opened}
 use Rattle.search_links.specs.Sets.{among, reached, meets, leadsTo, spread}
 
+-- ---- the lists
+-- the links out of a node begin and end where lists of 512 have room
+pub start-few : (starts to : List ℕ) (x k : ℕ) → Opened starts to → x < 64 → k ≡ getD starts x 0 → k ≤ 512
+start-few starts to x k o l d = omega (arith, o .few, o .within x (omega arith))
+
+pub until-few : (starts to : List ℕ) (x e : ℕ) → Opened starts to → x < 64 → e ≡ getD starts (x + 1) 0 → e ≤ 512
+until-few starts to x e o l d = omega (arith, o .few, o .within (x + 1) (omega arith))
+
+-- and each leads to a node that a word has room for
+pub link-low : (starts to : List ℕ) (x k e y : ℕ) → Opened starts to → x < 64 → e ≡ getD starts (x + 1) 0 → y ≡ getD to k 0 → k < e → y < 64
+link-low starts to x k e y o l d dy m = rw dy (o .low k (omega (arith, o .within (x + 1) (omega arith))))
+
+-- ---- the sets
 hop-iff : (h : Hop) (a y : ℕ) → So (eqb (h .label) a && eqb (h .to) y) ↔ (hop a y ≡ h)
 hop-iff h a y = simp (and-iff, eqb-iff) (λ (p, q). rw (← p, ← q), λ e. ((cc), (cc)))
 

@@ -8,7 +8,8 @@ use lib.ListN.{getD}
 use Rattle.theory.specs.Search.{any}
 use Rattle.theory.specs.Path.{Hop}
 use Rattle.words.specs.Words.{bit, wordOf}
-use Rattle.search_links.specs.Hops.{View, hopsOf}
+use Rattle.search_links.specs.declared.LabelRow.{LabelRow}
+use Rattle.search_links.specs.Hops.{View, hopsOf, LeastLabel}
 
 -- One of the hops is by the label a to y.
 unfoldable pub among : List Hop → ℕ → ℕ → Bool
@@ -18,6 +19,11 @@ among (h ∷ hs) a y = (eqb (h .label) a && eqb (h .to) y) || among hs a y
 -- The nodes that the hops reach by the label a.
 unfoldable pub reached : List Hop → ℕ → ℕ
 reached hs a = wordOf 64 (among hs a)
+
+-- The row of node x by the label a, and of the labels above a of the links out of it, and of `best`, the smallest.
+pub record RowBy (v : View) (x a best : ℕ) (r : LabelRow) : Type 0 where
+  pub set : r .set ≡ reached (hopsOf v x) a
+  pub next : LeastLabel v x (a + 1) best (r .next)
 
 -- One of n links from link k on leads to a node of w.
 unfoldable pub meets : List ℕ → ℕ → ℕ → ℕ → Bool

@@ -3,8 +3,8 @@
 ghost use mathlib.Core.Path.{_≡_};
 ghost use Prim.Native.Nat.{_≤_, _<_};
 ghost use lib.ListN.{getD};
-ghost use Rattle.search_links.specs.Hops.{viewOf, hopsOf, lead, Starts, Opened};
-ghost use Rattle.search_links.specs.Sets.{reached, leadsTo, spread, imageOf, rowAt, Paired, seenAs};
+ghost use Rattle.search_links.specs.Hops.{viewOf, hopsOf, lead, Smaller, Starts, Opened, Ordered, LeastLabel};
+ghost use Rattle.search_links.specs.Sets.{reached, RowBy, leadsTo, spread, imageOf, rowAt, Paired, seenAs};
 
 // The comparisons, by their place among the rows of the cells that pass one: those of same come first.
 pub const SAME: u8 = 0;
@@ -59,21 +59,84 @@ pub fn target(to: &[u8; 512], k: u16) -> u8
     to[k as usize]
 }
 
-// The cells that a link with the label leads to from cell x.
-pub fn targets(starts: &[u16; 65], labels: &[u16; 512], to: &[u8; 512], x: u8, label: u16) -> u64
-    requires { ⌜ Opened (now starts) (now to) × (x < 64) ⌝ }
-    ensures { λ r. ⌜ r ≡ reached (hopsOf (viewOf (now (starts .entry)) (now (labels .entry)) (now (to .entry))) x) label ⌝ }
+// The smaller of two numbers.
+fn smaller(a: usize, b: usize) -> usize
+    ensures { λ r. ⌜ Smaller a b r ⌝ }
+{
+    if a < b {
+        return a;
+    }
+    b
+}
+
+// Of the labels from `least` on of the links out of cell x, and of `best`, the smallest.
+pub fn least_label(
+    starts: &[u16; 65],
+    labels: &[u16; 512],
+    to: &[u8; 512],
+    x: u8,
+    least: usize,
+    best: usize,
+) -> usize
+    requires { ⌜ Ordered (viewOf (now starts) (now labels) (now to)) × (x < 64) ⌝ }
+    ensures { λ r. ⌜ LeastLabel (viewOf (now (starts .entry)) (now (labels .entry)) (now (to .entry))) x least best r ⌝ }
 {
     let until = starts[x as usize + 1];
     let mut k = starts[x as usize];
-    let mut out: u64 = 0;
     while k < until {
-        if labels[k as usize] == label {
-            out = words::with(out, to[k as usize]);
+        let found = label(labels, k) as usize;
+        if least <= found {
+            return smaller(found, best);
         }
         k += 1;
     }
-    out
+    best
+}
+
+// The cells that a link with some label leads to from a cell, and the next label of its links.
+pub struct LabelRow {
+    pub set: u64,
+    pub next: usize,
+}
+
+// The cells that a link with the label `by` leads to from cell x; and of the labels above it of the links out of x, and of `best`, the smallest.
+pub fn row_by(
+    starts: &[u16; 65],
+    labels: &[u16; 512],
+    to: &[u8; 512],
+    x: u8,
+    by: u16,
+    best: usize,
+) -> LabelRow
+    requires { ⌜ Ordered (viewOf (now starts) (now labels) (now to)) × (x < 64) ⌝ }
+    ensures { λ r. ⌜ RowBy (viewOf (now (starts .entry)) (now (labels .entry)) (now (to .entry))) x by best r ⌝ }
+{
+    let until = starts[x as usize + 1];
+    let mut k = starts[x as usize];
+    let mut set: u64 = 0;
+    while k < until {
+        let found = label(labels, k);
+        if by < found {
+            return LabelRow {
+                set,
+                next: smaller(found as usize, best),
+            };
+        }
+        if found == by {
+            set = words::with(set, to[k as usize]);
+        }
+        k += 1;
+    }
+    LabelRow { set, next: best }
+}
+
+// The cells that a link with the label leads to from cell x.
+pub fn targets(starts: &[u16; 65], labels: &[u16; 512], to: &[u8; 512], x: u8, label: u16) -> u64
+    requires { ⌜ Ordered (viewOf (now starts) (now labels) (now to)) × (x < 64) ⌝ }
+    ensures { λ r. ⌜ r ≡ reached (hopsOf (viewOf (now (starts .entry)) (now (labels .entry)) (now (to .entry))) x) label ⌝ }
+{
+    let row = row_by(starts, labels, to, x, label, 0);
+    row.set
 }
 
 // Whether a link out of cell x leads to a cell of w.
@@ -94,7 +157,7 @@ pub fn leads(starts: &[u16; 65], to: &[u8; 512], x: u8, w: u64) -> bool
 
 // The cells that a link with the label leads to from a cell of w.
 pub fn image(starts: &[u16; 65], labels: &[u16; 512], to: &[u8; 512], w: u64, label: u16) -> u64
-    requires { ⌜ Opened (now starts) (now to) ⌝ }
+    requires { ⌜ Ordered (viewOf (now starts) (now labels) (now to)) ⌝ }
     ensures { λ r. ⌜ r ≡ imageOf (viewOf (now (starts .entry)) (now (labels .entry)) (now (to .entry))) w label ⌝ }
 {
     let mut out: u64 = 0;

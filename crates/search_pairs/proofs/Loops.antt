@@ -28,13 +28,6 @@ empty : (p : List ℕ) → length p ≡ 0 → p ≡ []
 empty [] e = refl
 empty (k ∷ p) e = absurd (omega arith)
 
--- ---- the links out of a node
-pub start-few : (starts to : List ℕ) (x k : ℕ) → Opened starts to → x < 64 → k ≡ getD starts x 0 → k ≤ 512
-start-few starts to x k o l d = omega (arith, o .few, o .within x (omega arith))
-
-pub link-low : (starts to : List ℕ) (x k e y : ℕ) → Opened starts to → x < 64 → e ≡ getD starts (x + 1) 0 → k + 1 < e → y ≡ getD to k 0 → y < 64
-link-low starts to x k e y o l d m dy = rw dy (o .low k (omega (arith, o .within (x + 1) (omega arith))))
-
 -- ---- two tables
 -- paths without links are tips; those of two tables, turned
 pub tips-searched : (v u : View) (z ea eb pl pr : List ℕ) (pn : ℕ) (ql qr : List ℕ) (qn : ℕ) (f : Bool) → Met ea eb ql qr qn pl pr pn f

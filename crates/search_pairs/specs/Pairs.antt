@@ -8,7 +8,7 @@ use lib.Bits.{bitAnd}
 use lib.Dec.{eqb}
 use lib.ListN.{length, getD, take}
 use Rattle.words.specs.Words.{bit}
-use Rattle.search_links.specs.Hops.{View, Opened}
+use Rattle.search_links.specs.Hops.{View, Ordered}
 use Rattle.search_links.specs.Sets.{spread, rowAt}
 use Rattle.search_steps.specs.Paths.{Trail, endOf, endsOver}
 use Rattle.search_pairs.specs.declared.Wanted.{Wanted}
@@ -85,9 +85,9 @@ pub record Sought (v u : View) (z ea eb : List ℕ) (x y i j : ℕ) (r : Pair) :
   pub none : r .kind ≡ 0 → Clear v u z ea eb x y i j
 
 -- What the search asks.
-pub record Asked (sa ta sb tb : List ℕ) (x y i j : ℕ) : Type 0 where
-  pub left : Opened sa ta
-  pub right : Opened sb tb
+pub record Asked (v u : View) (x y i j : ℕ) : Type 0 where
+  pub left : Ordered v
+  pub right : Ordered u
   pub cell : x < 64
   pub partner : y < 64
   pub first : i ≤ 4

@@ -99,7 +99,7 @@ fn seek(
     rest: u8,
     turned: bool,
 ) -> bool
-    requires { ⌜ Seeking (now sa) (now ta) (now sb) (now tb) pn qn × (more ≤ 4) × (rest ≤ 4) × (turned ≡ true → rest ≡ 0) ⌝ }
+    requires { ⌜ Seeking (viewOf (now sa) (now la) (now ta)) (viewOf (now sb) (now lb) (now tb)) pn qn × (more ≤ 4) × (rest ≤ 4) × (turned ≡ true → rest ≡ 0) ⌝ }
     ensures { λ r. ⌜ Searched (viewOf (now (sa .entry)) (now (la .entry)) (now (ta .entry))) (viewOf (now (sb .entry)) (now (lb .entry)) (now (tb .entry))) (now (z .entry)) (now (ea .entry)) (now (eb .entry)) turned (now (pl .entry)) (now (pr .entry)) pn more (now (ql .entry)) (now (qr .entry)) qn rest r ⌝ }
 {
     if more == 0 {
@@ -198,7 +198,7 @@ fn leads_on(
     rest: u8,
     turned: bool,
 ) -> bool
-    requires { ⌜ Seeking (now sa) (now ta) (now sb) (now tb) 1 qn × (x < 64) × (more ≤ 4) × (rest ≤ 4) × (turned ≡ true → rest ≡ 0) ⌝ }
+    requires { ⌜ Seeking (viewOf (now sa) (now la) (now ta)) (viewOf (now sb) (now lb) (now tb)) 1 qn × (x < 64) × (more ≤ 4) × (rest ≤ 4) × (turned ≡ true → rest ≡ 0) ⌝ }
     ensures { λ r. ⌜ Told (viewOf (now (sa .entry)) (now (la .entry)) (now (ta .entry))) (viewOf (now (sb .entry)) (now (lb .entry)) (now (tb .entry))) (now (z .entry)) (now (ea .entry)) (now (eb .entry)) turned x w more (now (ql .entry)) (now (qr .entry)) qn rest r ⌝ }
 {
     let mut l = [0u64; 64];
@@ -248,7 +248,7 @@ fn next_link(
     rest: u8,
     turned: bool,
 ) -> u16
-    requires { ⌜ Seeking (now sa) (now ta) (now sb) (now tb) 1 qn × (x < 64) × (more < 4) × (rest ≤ 4) × (turned ≡ true → rest ≡ 0) × Ahead (viewOf (now sa) (now la) (now ta)) (viewOf (now sb) (now lb) (now tb)) (now z) (now ea) (now eb) turned x w (more + 1) (now ql) (now qr) qn rest ⌝ }
+    requires { ⌜ Seeking (viewOf (now sa) (now la) (now ta)) (viewOf (now sb) (now lb) (now tb)) 1 qn × (x < 64) × (more < 4) × (rest ≤ 4) × (turned ≡ true → rest ≡ 0) × Ahead (viewOf (now sa) (now la) (now ta)) (viewOf (now sb) (now lb) (now tb)) (now z) (now ea) (now eb) turned x w (more + 1) (now ql) (now qr) qn rest ⌝ }
     ensures { λ r. ⌜ Next (viewOf (now (sa .entry)) (now (la .entry)) (now (ta .entry))) (viewOf (now (sb .entry)) (now (lb .entry)) (now (tb .entry))) (now (z .entry)) (now (ea .entry)) (now (eb .entry)) turned x w more (now (ql .entry)) (now (qr .entry)) qn rest r ⌝ }
 {
     let until = sa[x as usize + 1];
@@ -337,7 +337,7 @@ fn first_path(
     rest: u8,
     turned: bool,
 ) -> Tail
-    requires { ⌜ Seeking (now sa) (now ta) (now sb) (now tb) 1 qn × (x < 64) × (more ≤ 4) × (rest ≤ 4) × (turned ≡ true → rest ≡ 0) × Ahead (viewOf (now sa) (now la) (now ta)) (viewOf (now sb) (now lb) (now tb)) (now z) (now ea) (now eb) turned x w more (now ql) (now qr) qn rest ⌝ }
+    requires { ⌜ Seeking (viewOf (now sa) (now la) (now ta)) (viewOf (now sb) (now lb) (now tb)) 1 qn × (x < 64) × (more ≤ 4) × (rest ≤ 4) × (turned ≡ true → rest ≡ 0) × Ahead (viewOf (now sa) (now la) (now ta)) (viewOf (now sb) (now lb) (now tb)) (now z) (now ea) (now eb) turned x w more (now ql) (now qr) qn rest ⌝ }
     ensures { λ r. ⌜ Foremost (viewOf (now (sa .entry)) (now (la .entry)) (now (ta .entry))) (viewOf (now (sb .entry)) (now (lb .entry)) (now (tb .entry))) (now (z .entry)) (now (ea .entry)) (now (eb .entry)) turned x w more (now (ql .entry)) (now (qr .entry)) qn rest r ⌝ }
 {
     if more == 0 {
@@ -460,7 +460,7 @@ pub fn first_pair(
     qn: usize,
     rest: u8,
 ) -> Pair
-    requires { ⌜ Asked (now sa) (now ta) (now sb) (now tb) x y i j × (qn ≤ 64) × (rest ≤ 4) × Ahead (viewOf (now sa) (now la) (now ta)) (viewOf (now sb) (now lb) (now tb)) (now z) (now ea) (now eb) false x (2 ^ y) i (now ql) (now qr) qn rest × StandsFor (viewOf (now sa) (now la) (now ta)) (viewOf (now sb) (now lb) (now tb)) (now z) (now ea) (now eb) x y i j (now ql) (now qr) qn rest ⌝ }
+    requires { ⌜ Asked (viewOf (now sa) (now la) (now ta)) (viewOf (now sb) (now lb) (now tb)) x y i j × (qn ≤ 64) × (rest ≤ 4) × Ahead (viewOf (now sa) (now la) (now ta)) (viewOf (now sb) (now lb) (now tb)) (now z) (now ea) (now eb) false x (2 ^ y) i (now ql) (now qr) qn rest × StandsFor (viewOf (now sa) (now la) (now ta)) (viewOf (now sb) (now lb) (now tb)) (now z) (now ea) (now eb) x y i j (now ql) (now qr) qn rest ⌝ }
     ensures { λ r. ⌜ Sought (viewOf (now (sa .entry)) (now (la .entry)) (now (ta .entry))) (viewOf (now (sb .entry)) (now (lb .entry)) (now (tb .entry))) (now (z .entry)) (now (ea .entry)) (now (eb .entry)) x y i j r ⌝ }
 {
     let partner = words::only(y);
@@ -532,7 +532,7 @@ pub fn two_paths(
     i: u8,
     j: u8,
 ) -> Pair
-    requires { ⌜ Asked (now sa) (now ta) (now sb) (now tb) x y i j ⌝ }
+    requires { ⌜ Asked (viewOf (now sa) (now la) (now ta)) (viewOf (now sb) (now lb) (now tb)) x y i j ⌝ }
     ensures { λ r. ⌜ Sought (viewOf (now (sa .entry)) (now (la .entry)) (now (ta .entry))) (viewOf (now (sb .entry)) (now (lb .entry)) (now (tb .entry))) (now (z .entry)) (now (ea .entry)) (now (eb .entry)) x y i j r ⌝ }
 {
     let partner = words::only(y);

@@ -14,15 +14,15 @@ use lib.Seq.{getD-set-same, getD-set-other}
 use Rattle.theory.specs.TestLaws.{never, le-or-lt, and-iff, or-iff, not-iff}
 use Rattle.words.specs.Words.{bit, IsLowest, IsWithout}
 use Rattle.words.specs.Laws.{bit-zero, bit-or, bit-without}
-use Rattle.search_links.specs.Hops.{View, labelOf, toOf, hopsOf, Opened}
+use Rattle.search_links.specs.Hops.{View, labelOf, toOf, hopsOf, Opened, everyLabel, LeastLabel}
 use Rattle.search_links.specs.Sets.{reached, imageOf, rowAt, seenAs}
 use Rattle.search_tables.specs.declared.Grown.{Grown}
 use Rattle.search_tables.specs.Tips.{Has, Covered, TableRoom, Untouched, cutAs, Grew}
 use Rattle.search_tables.specs.Laws.{equal-or, covered-by-has, covered-trans, untouched-refl, untouched-trans}
 use Rattle.search_steps.specs.declared.Stretch.{Stretch}
 use Rattle.search_steps.specs.declared.Part.{Part}
-use Rattle.search_steps.specs.Paths.{stepWord}
-use Rattle.search_steps.specs.Tables.{Beyond, Bounded, everyLabel, LeastLabel, NextLabel, Unites, Rowed, cellsBy, setBy, Stretched, Moves, slot, lastPlace, Passed, Begins, Filled}
+use Rattle.search_steps.specs.Paths.{Leaves, stepWord}
+use Rattle.search_steps.specs.Tables.{Beyond, NextLabel, Unites, Rowed, cellsBy, setBy, Stretched, Moves, slot, lastPlace, Passed, Begins, Filled}
 use Rattle.search_steps.specs.Laws.{spread-agrees, leaves-low, image-in, image-out}
 
 -- what is below the next number is at most this one
@@ -35,83 +35,51 @@ unfolding stepWord
 step-is u z w a y n m dn dm = dm ∙ rw dn
 
 -- ---- labels
-pub opened-bounded : (starts to : List ℕ) → Opened starts to → Bounded starts
-opened-bounded starts to o = record { each = λ x l. omega (arith, o .few, o .within x l) }
-
-pub until-bounded : (starts : List ℕ) (x e : ℕ) → Bounded starts → x < 64 → e ≡ getD starts (x + 1) 0 → e ≤ 512
-until-bounded starts x e b l d = omega (arith, b .each (x + 1) (omega arith))
-
--- the links out of a node: of those passed, the smallest label is kept
-pub record Lessening (starts labels : List ℕ) (x least best out k : ℕ) : Type 0 where
-  pub onward : least ≤ best → least ≤ out
-  pub most : out ≤ best
-  pub none : (j : ℕ) → getD starts x 0 ≤ j → j < k → least ≤ getD labels j 0 → (out ≤ getD labels j 0) × (out < everyLabel)
-
-module _ (starts labels : List ℕ) (x least best : ℕ) where
-  pub lessening-start : (k : ℕ) → k ≡ getD starts x 0 → Lessening starts labels x least best best k
-  lessening-start k d = record { onward = λ l. l; most = omega arith; none = λ j a b. absurd (omega arith) }
-
-  module _ (out k : ℕ) (g : Lessening starts labels x least best out k) where
-    pub lessening-end : (e : ℕ) → e ≡ getD starts (x + 1) 0 → e ≤ k → LeastLabel starts labels x least best out
-    lessening-end e d l = record { onward = g .onward; most = g .most; none = λ j a b. g .none j a (omega arith) }
-
-    module _ (label : ℕ) (d : label ≡ getD labels k 0) (small : label < everyLabel) where
-      at-this : (j : ℕ) → j ≡ k → getD labels j 0 ≡ label
-      at-this j q = ap (λ (i : ℕ). getD labels i 0) q ∙ sym d
-
-      -- the label is no smaller, or does not count
-      pub lessening-pass : (least ≤ label → out ≤ label) → Lessening starts labels x least best out (k + 1)
-      lessening-pass h = record {
-        onward = g .onward;
-        most = g .most;
-        none = λ j a b c. ⊎-elim (λ q. (let e = at-this j q in let m = h (omega (arith, e)) in (omega (arith, e), omega arith))) (λ s. g .none j a s c) (eq-or-lt-of-le (at-most k j b));
-      }
-
-      pub lessening-take : least ≤ label → label < out → Lessening starts labels x least best label (k + 1)
-      lessening-take h l = record {
-        onward = λ _. h;
-        most = omega (arith, g .most);
-        none = λ j a b c. ⊎-elim (λ q. (omega (arith, at-this j q), small)) (λ s. let (m, o) = g .none j a s c in (omega arith, small)) (eq-or-lt-of-le (at-most k j b));
-      }
-
 -- the nodes: of each, it is still to come, or its labels are none between
-pub record Labelling (starts labels : List ℕ) (cells least out left : ℕ) : Type 0 where
+pub record Labelling (v : View) (cells least out left : ℕ) : Type 0 where
   pub small : left < 2 ^ 64
+  pub within : (x : ℕ) → So (bit left x) → So (bit cells x)
   pub onward : least ≤ out
   pub most : out ≤ everyLabel
-  pub none : (x k : ℕ) → x < 64 → So (bit cells x) → getD starts x 0 ≤ k → k < getD starts (x + 1) 0 → least ≤ getD labels k 0
-      → So (bit left x) ⊎ ((out ≤ getD labels k 0) × (out < everyLabel))
+  pub none : (x k : ℕ) → x < 64 → So (bit cells x) → Leaves v x k → least ≤ labelOf v k
+      → So (bit left x) ⊎ ((out ≤ labelOf v k) × (out < everyLabel))
+  pub one : (out ≡ everyLabel) ⊎ ((x k : ℕ) × So (bit cells x) × Leaves v x k × (labelOf v k ≡ out))
 
-module _ (starts labels : List ℕ) (cells least : ℕ) where
-  pub labelling-start : least ≤ everyLabel → cells < 2 ^ 64 → Labelling starts labels cells least everyLabel cells
-  labelling-start l m = record { small = m; onward = l; most = omega arith; none = λ x k a i b c e. inl i }
+module _ (v : View) (cells least : ℕ) where
+  pub labelling-start : least ≤ everyLabel → cells < 2 ^ 64 → Labelling v cells least everyLabel cells
+  labelling-start l m = record { small = m; within = λ x i. i; onward = l; most = omega arith; none = λ x k a i b e. inl i; one = inl refl }
 
-  module _ (out left : ℕ) (g : Labelling starts labels cells least out left) where
-    pub labelling-end : left ≡ 0 → NextLabel starts labels cells least out
+  module _ (out left : ℕ) (g : Labelling v cells least out left) where
+    pub labelling-end : left ≡ 0 → NextLabel v cells least out
     labelling-end e = record {
       onward = g .onward;
       most = g .most;
-      none = λ x k a i b c h. ⊎-elim (λ j. never (sym (bit-zero x) ∙ rw e at j)) (λ q. q) (g .none x k a i b c h);
+      none = λ x k a i b h. ⊎-elim (λ j. never (sym (bit-zero x) ∙ rw e at j)) (λ q. q) (g .none x k a i b h);
+      one = g .one;
     }
 
-    pub labelling-next : (x out′ left′ : ℕ) → IsLowest left x → IsWithout left x left′ → LeastLabel starts labels x least out out′
-        → Labelling starts labels cells least out′ left′
+    pub labelling-next : (x out′ left′ : ℕ) → IsLowest left x → IsWithout left x left′ → LeastLabel v x least out out′
+        → Labelling v cells least out′ left′
     labelling-next x out′ left′ low off f = record {
       small = omega (arith, off .less, g .small);
+      within = λ y i. g .within y (and-iff _ _ .0 (sym (ap (λ (w : ℕ). bit w y) (off .is) ∙ bit-without left x y (low .there)) ∙ i) .0);
       onward = f .onward (g .onward);
       most = omega (arith, f .most, g .most);
-      none = λ y k a i b c h. each y k a i b c h (equal-or y x);
+      none = λ y k a i b h. each y k a i b h (equal-or y x);
+      one =
+          ⊎-elim (λ e. ⊎-elim (λ q. inl (e ∙ q)) (λ (y, k, i, b, q). inr (y, k, i, b, q ∙ sym e)) (g .one))
+          (λ (k, p, q, _, e). inr (x, k, g .within x (low .there), record { from = p; until = q }, e)) (f .one);
     }
       where
-        each : (y k : ℕ) → y < 64 → So (bit cells y) → getD starts y 0 ≤ k → k < getD starts (y + 1) 0 → least ≤ getD labels k 0 → (y ≡ x) ⊎ (y ≡ x → ⊥)
-            → So (bit left′ y) ⊎ ((out′ ≤ getD labels k 0) × (out′ < everyLabel))
-        each y k a i b c h e =
+        each : (y k : ℕ) → y < 64 → So (bit cells y) → Leaves v y k → least ≤ labelOf v k → (y ≡ x) ⊎ (y ≡ x → ⊥)
+            → So (bit left′ y) ⊎ ((out′ ≤ labelOf v k) × (out′ < everyLabel))
+        each y k a i b h e =
             ⊎-elim
-            (λ q. inr (f .none k (rw q at b) (rw q at c) h))
+            (λ q. inr (f .none k (rw q at (b .from)) (rw q at (b .until)) h))
             (λ n. ⊎-elim
             (λ j. inl (ap (λ (w : ℕ). bit w y) (off .is) ∙ bit-without left x y (low .there) ∙ and-iff _ _ .1 (j, not-iff _ .1 (λ t. n (sym (eqb-true x y t))))))
             (λ (l, m). inr (omega (arith, f .most), omega (arith, f .most)))
-            (g .none y k a i b c h)) e
+            (g .none y k a i b h)) e
 
 -- ---- sets are united
 module _ (sets : List ℕ) (first : ℕ) where
@@ -294,12 +262,12 @@ pub record Filling (v u : View) (z ends : List ℕ) (wide : Bool) (ls rs : List 
 
 module _ (v u : View) (z ends : List ℕ) (wide : Bool) (ls rs : List ℕ) (first n at : ℕ) (ls₀ rs₀ : List ℕ) (base count : ℕ) (few : n ≤ 64) (here : ℕ) (wl : Unites ls first n here) where
   -- a link out of a class has none of the labels between
-  none-between : (least a : ℕ) → NextLabel (v .starts) (v .labels) here least a → (e x k : ℕ) → Moves v ls first n e x k → least ≤ labelOf v k
+  none-between : (least a : ℕ) → NextLabel v here least a → (e x k : ℕ) → Moves v ls first n e x k → least ≤ labelOf v k
       → (a ≤ labelOf v k) × (a < everyLabel)
   none-between least a h e x k m l =
-      h .none x k (m .cell) (wl .each e x (m .least) (m .class) (m .inside)) (m .leaves .from) (m .leaves .until) l
+      h .none x k (m .cell) (wl .each e x (m .least) (m .class) (m .inside)) (m .leaves) l
 
-  pub filling-start : TableRoom ls₀ rs₀ count → base ≤ count → at ≤ lastPlace → (d a from : ℕ) → d ≡ at / 64 → NextLabel (v .starts) (v .labels) here d a → Begins first a at from
+  pub filling-start : TableRoom ls₀ rs₀ count → base ≤ count → at ≤ lastPlace → (d a from : ℕ) → d ≡ at / 64 → NextLabel v here d a → Begins first a at from
       → Filling v u z ends wide ls rs first n at ls₀ rs₀ base count ls₀ rs₀ count a from
   filling-start r b l d a from dd h s = record {
     room = r;
@@ -400,7 +368,7 @@ module _ (v u : View) (z ends : List ℕ) (wide : Bool) (ls rs : List ℕ) (firs
             parts : (e j : ℕ) → e < n → first ≤ e → slot e j < slot (p .upto) a → slot e j < slot from a ⊎ ((j ≡ a) × (from ≤ e) × (e < p .upto))
             parts e j c g s = ⊎-elim (λ b. inl b) (λ b. inr (omega (arith, w .full t .0), omega (arith, w .full t .0), omega (arith, w .full t .0))) (or-not (slot e j) (slot from a))
 
-        pub filling-next : p .full ≡ false → (a″ : ℕ) → NextLabel (v .starts) (v .labels) here (a + 1) a″
+        pub filling-next : p .full ≡ false → (a″ : ℕ) → NextLabel v here (a′ + 1) a″
             → Filling v u z ends wide ls rs first n at ls₀ rs₀ base count ls″ rs″ (p .count) a″ first
         filling-next t a″ h = record {
           room = w .room;
@@ -414,11 +382,11 @@ module _ (v u : View) (z ends : List ℕ) (wide : Bool) (ls rs : List ℕ) (firs
           sound = label-sound;
           kept = λ y o g. later y o (f .kept y o g);
           whole = λ e x k m b c. whole-upto e x k m b (parts e x k m c);
-          ended = λ q e x k m. ⊎-elim (λ g. absurd (omega (arith, none-between (a + 1) a″ h e x k m g .1))) (λ g. omega arith) (le-or-lt (a + 1) (labelOf v k));
+          ended = λ q e x k m. ⊎-elim (λ g. absurd (omega (arith, none-between (a′ + 1) a″ h e x k m g .1))) (λ g. omega arith) (le-or-lt (a′ + 1) (labelOf v k));
         }
           where
             parts : (e x k : ℕ) → Moves v ls first n e x k → slot e (labelOf v k) < slot first a″
                 → slot e (labelOf v k) < slot from a ⊎ ((labelOf v k ≡ a) × (from ≤ e) × (e < p .upto))
             parts e x k m s =
-                let i : labelOf v k ≤ a = ⊎-elim (λ g. absurd (omega (arith, none-between (a + 1) a″ h e x k m g .0, m .class, m .least))) (λ g. omega arith) (le-or-lt (a + 1) (labelOf v k)) in
+                let i : labelOf v k ≤ a = ⊎-elim (λ g. absurd (omega (arith, none-between (a′ + 1) a″ h e x k m g .0, m .class, m .least))) (λ g. omega arith) (le-or-lt (a′ + 1) (labelOf v k)) in
                 ⊎-elim (λ b. inl b) (λ b. inr (omega (arith, m .class, f .since), omega (arith, m .class), omega (arith, w .all t, m .class))) (or-not (slot e (labelOf v k)) (slot from a))

@@ -97,10 +97,6 @@ module _ (v : View) where
       let (k, m, b, q) = hop-out (startOf v x) _ _ (among-iff (hopsOf v x) a y .0 (sym (bit-reached (hopsOf v x) a y l) ∙ j)) in
       record { node = x; link = k; low = low; inside = i; leaves = record { from = m; until = omega arith }; label = sym (ap (λ (h : Hop). h .label) q); to = sym (ap (λ (h : Hop). h .to) q) }
 
--- where the links out of a node end
-pub until-few : (starts to : List ℕ) (x e : ℕ) → Opened starts to → x < 64 → e ≡ getD starts (x + 1) 0 → e ≤ 512
-until-few starts to x e o l d = omega (arith, o .few, o .within (x + 1) (omega arith))
-
 -- the links of a path are among those that there are
 pub trail-links : (v : View) → Opened (v .starts) (v .to) → (x : ℕ) (p : List ℕ) → x < 64 → Trail v x p → (i : ℕ) → i < length p
     → (getD p i 0 < 512) × (toOf v (getD p i 0) < 64)

@@ -6,7 +6,7 @@ use mathlib.Core.List.{List}
 use Prim.Native.Nat.{ℕ, _+_, _*_, _/_, _≤_, _<_}
 use lib.ListN.{length, getD}
 use Rattle.words.specs.Words.{bit}
-use Rattle.search_links.specs.Hops.{View, labelOf, toOf, hopsOf}
+use Rattle.search_links.specs.Hops.{View, labelOf, toOf, hopsOf, everyLabel}
 use Rattle.search_links.specs.Sets.{reached, spread, rowAt, seenAs}
 use Rattle.search_tables.specs.Tips.{Has, Covered, TableRoom, Untouched, cutAs}
 use Rattle.search_steps.specs.declared.Stretch.{Stretch}
@@ -27,26 +27,12 @@ pub record Beyond (v u : View) (z ls rs : List ℕ) (n y o : ℕ) : Type 0 where
   pub has : Has ls rs n cell word
   pub leads : Leads v u z cell word link y o
 
--- Lists of 512 hold the links out of each node.
-pub record Bounded (starts : List ℕ) : Type 0 where
-  pub each : (x : ℕ) → x ≤ 64 → getD starts x 0 ≤ 512
-
--- How many labels there can be: each is below.
-abbrev pub everyLabel : ℕ
-everyLabel = 65536
-
--- Of the labels from `least` on of the links out of node x, and of `best`, the smallest.
-pub record LeastLabel (starts labels : List ℕ) (x least best a : ℕ) : Type 0 where
-  pub onward : least ≤ best → least ≤ a
-  pub most : a ≤ best
-  pub none : (k : ℕ) → getD starts x 0 ≤ k → k < getD starts (x + 1) 0 → least ≤ getD labels k 0 → (a ≤ getD labels k 0) × (a < everyLabel)
-
 -- The smallest label from `least` on of the links out of the nodes; where there is none, the number of all labels.
-pub record NextLabel (starts labels : List ℕ) (cells least a : ℕ) : Type 0 where
+pub record NextLabel (v : View) (cells least a : ℕ) : Type 0 where
   pub onward : least ≤ a
   pub most : a ≤ everyLabel
-  pub none : (x k : ℕ) → x < 64 → So (bit cells x) → getD starts x 0 ≤ k → k < getD starts (x + 1) 0 → least ≤ getD labels k 0
-      → (a ≤ getD labels k 0) × (a < everyLabel)
+  pub none : (x k : ℕ) → x < 64 → So (bit cells x) → Leaves v x k → least ≤ labelOf v k → (a ≤ labelOf v k) × (a < everyLabel)
+  pub one : (a ≡ everyLabel) ⊎ ((x k : ℕ) × So (bit cells x) × Leaves v x k × (labelOf v k ≡ a))
 
 -- The set has the nodes of the sets from `first` on, up to the n-th.
 pub record Unites (sets : List ℕ) (first n w : ℕ) : Type 0 where

@@ -1,12 +1,12 @@
 // Paths from a cell of one book, each with the paths of the other book that are alike to it, by their tips, in tables: where they lead by one
 // link more.
 ghost use mathlib.Core.Path.{_≡_};
-ghost use Prim.Native.Nat.{_≤_, _<_};
+ghost use Prim.Native.Nat.{_+_, _≤_, _<_};
 ghost use lib.ListN.{length};
-ghost use Rattle.search_links.specs.Hops.{viewOf, Opened};
+ghost use Rattle.search_links.specs.Hops.{viewOf, Ordered, everyLabel};
 ghost use Rattle.search_steps.specs.Paths.{stepWord};
 ghost use Rattle.search_tables.specs.Tips.{TableRoom};
-ghost use Rattle.search_steps.specs.Tables.{Bounded, everyLabel, LeastLabel, NextLabel, Unites, Rowed, Stretched, Begins, lastPlace, Filled};
+ghost use Rattle.search_steps.specs.Tables.{NextLabel, Unites, Rowed, Stretched, Begins, lastPlace, Filled};
 
 // The cells that a link with the label leads to from a cell of w, of those related to y.
 pub fn step(
@@ -18,7 +18,7 @@ pub fn step(
     label: u16,
     y: u8,
 ) -> u64
-    requires { ⌜ Opened (now starts) (now to) × (y < 64) ⌝ }
+    requires { ⌜ Ordered (viewOf (now starts) (now labels) (now to)) × (y < 64) ⌝ }
     ensures { λ r. ⌜ r ≡ stepWord (viewOf (now (starts .entry)) (now (labels .entry)) (now (to .entry))) (now (z .entry)) w label y ⌝ }
 {
     let next = search_links::image(starts, labels, to, w, label);
@@ -31,36 +31,22 @@ const EVERY_LABEL: usize = 65536;
 // The place where all classes and labels are gone through.
 pub const LAST_PLACE: usize = 4194304;
 
-// Of the labels from `least` on of the links out of cell x, and of `best`, the smallest.
-fn label_from(starts: &[u16; 65], labels: &[u16; 512], x: u8, least: usize, best: usize) -> usize
-    requires { ⌜ Bounded (now starts) × (x < 64) ⌝ }
-    ensures { λ r. ⌜ LeastLabel (now (starts .entry)) (now (labels .entry)) x least best r ⌝ }
-{
-    let until = starts[x as usize + 1];
-    let mut k = starts[x as usize];
-    let mut out = best;
-    while k < until {
-        let label = search_links::label(labels, k) as usize;
-        if least <= label {
-            if label < out {
-                out = label;
-            }
-        }
-        k += 1;
-    }
-    out
-}
-
 // The smallest label from `least` on of the links out of the cells; where there is none, the number of all labels.
-fn next_label(starts: &[u16; 65], labels: &[u16; 512], cells: u64, least: usize) -> usize
-    requires { ⌜ Bounded (now starts) × (least ≤ everyLabel) ⌝ }
-    ensures { λ r. ⌜ NextLabel (now (starts .entry)) (now (labels .entry)) cells least r ⌝ }
+fn next_label(
+    starts: &[u16; 65],
+    labels: &[u16; 512],
+    to: &[u8; 512],
+    cells: u64,
+    least: usize,
+) -> usize
+    requires { ⌜ Ordered (viewOf (now starts) (now labels) (now to)) × (least ≤ everyLabel) ⌝ }
+    ensures { λ r. ⌜ NextLabel (viewOf (now (starts .entry)) (now (labels .entry)) (now (to .entry))) cells least r ⌝ }
 {
     let mut out = EVERY_LABEL;
     let mut left = cells;
     while left != 0 {
         let x = words::lowest(left);
-        out = label_from(starts, labels, x, least, out);
+        out = search_links::least_label(starts, labels, to, x, least, out);
         left = words::without(left, x);
     }
     out
@@ -80,7 +66,8 @@ fn union_of(sets: &[u64; 64], first: usize, n: usize) -> u64
     out
 }
 
-// Puts the row of each of the cells into a table of rows, from `base` on: the cells that a link with the label leads to from it.
+// Puts the row of each of the cells into a table of rows, from `base` on: the cells that a link with the label leads to from it. The answer is the next label of
+// their links; where there is none, the number of all labels.
 fn put_rows(
     starts: &[u16; 65],
     labels: &[u16; 512],
@@ -89,16 +76,20 @@ fn put_rows(
     label: u16,
     base: usize,
     rows: &mut [u64; 128],
-)
-    requires { ⌜ Opened (now starts) (now to) × (base ≤ 64) × (length (now rows) ≡ 128) ⌝ }
-    ensures { λ _. ⌜ Rowed (viewOf (now (starts .entry)) (now (labels .entry)) (now (to .entry))) cells label base (now (rows .entry)) (now (rows .exit)) ⌝ }
+) -> usize
+    requires { ⌜ Ordered (viewOf (now starts) (now labels) (now to)) × (base ≤ 64) × (length (now rows) ≡ 128) ⌝ }
+    ensures { λ r. ⌜ Rowed (viewOf (now (starts .entry)) (now (labels .entry)) (now (to .entry))) cells label base (now (rows .entry)) (now (rows .exit)) × NextLabel (viewOf (now (starts .entry)) (now (labels .entry)) (now (to .entry))) cells (label + 1) r ⌝ }
 {
+    let mut next = EVERY_LABEL;
     let mut left = cells;
     while left != 0 {
         let x = words::lowest(left);
-        rows[base + x as usize] = search_links::targets(starts, labels, to, x, label);
+        let row = search_links::row_by(starts, labels, to, x, label, next);
+        rows[base + x as usize] = row.set;
+        next = row.next;
         left = words::without(left, x);
     }
+    next
 }
 
 // How many classes a table has after some classes of another were gone through for one label, up to which, and whether it was too full for
@@ -191,17 +182,17 @@ pub fn fill(
     base: usize,
     count: usize,
 ) -> Part
-    requires { ⌜ Opened (now sa) (now ta) × Opened (now sb) (now tb) × (n ≤ 64) × (at ≤ lastPlace) × TableRoom (now ends) (now sets) count × (base ≤ count) ⌝ }
+    requires { ⌜ Ordered (viewOf (now sa) (now la) (now ta)) × Ordered (viewOf (now sb) (now lb) (now tb)) × (n ≤ 64) × (at ≤ lastPlace) × TableRoom (now ends) (now sets) count × (base ≤ count) ⌝ }
     ensures { λ r. ⌜ Filled (viewOf (now (sa .entry)) (now (la .entry)) (now (ta .entry))) (viewOf (now (sb .entry)) (now (lb .entry)) (now (tb .entry))) (now (z .entry)) (now (eb .entry)) wide (now (lefts .entry)) (now (rights .entry)) first n at (now (ends .entry)) (now (sets .entry)) base count (now (ends .exit)) (now (sets .exit)) r ⌝ }
 {
     let here = union_of(lefts, first, n);
     let there = union_of(rights, first, n);
     let mut rows = [0u64; 128];
     let mut total = count;
-    let mut label = next_label(sa, la, here, at / 64);
+    let mut label = next_label(sa, la, ta, here, at / 64);
     let mut from = begin(first, label, at);
     while label < EVERY_LABEL {
-        put_rows(sa, la, ta, here, label as u16, 0, &mut rows);
+        let next = put_rows(sa, la, ta, here, label as u16, 0, &mut rows);
         put_rows(sb, lb, tb, there, label as u16, 64, &mut rows);
         let p = fill_label(
             z,
@@ -225,7 +216,7 @@ pub fn fill(
             };
         }
         from = first;
-        label = next_label(sa, la, here, label + 1);
+        label = next;
     }
     Part {
         count: total,

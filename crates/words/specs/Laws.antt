@@ -330,6 +330,42 @@ and-cell k w i h l t =
 pub without-less : (k w i : ℕ) → w < 2 ^ k → i < k → bit w i ≡ true → bitXor w (2 ^ i) < w
 without-less k w i h l t = omega (arith, xor-add-and w (2 ^ i), and-cell k w i h l t, pow-pos i)
 
+-- a set that has a cell is not 0
+pub cell-pos : (w i : ℕ) → bit w i ≡ true → 0 < w
+cell-pos w i t = pos-of-ne-zero (λ e. false≢true (sym (bit-zero i) ∙ rw e at t))
+
+-- the word less one: its lowest cell is off, those above are as they were
+and-same : (b : Bool) → b && b ≡ b && true
+and-same true = refl
+and-same false = refl
+
+lowest-cut : (k w : ℕ) → 0 < w → w < 2 ^ k → (j : ℕ) → bit w j && bit (w - 1) j ≡ bit w j && not (eqb (first k (bit w)) j)
+unfolding first
+lowest-cut zero w p h j = absurd (omega arith)
+lowest-cut (suc k) w p h j = by (bit w 0) refl (λ q. lowest-cut k (w / 2) q (half-lt w k h)) j
+  where
+    by : (b : Bool) → bit w 0 ≡ b → (0 < w / 2 → (j : ℕ) → bit (w / 2) j && bit (w / 2 - 1) j ≡ bit (w / 2) j && not (eqb (first k (bit (w / 2))) j)) → (j : ℕ)
+        → bit w j && bit (w - 1) j ≡ bit w j && not (eqb (cond b 0 (suc (first k (λ i. bit w (suc i))))) j)
+    by true e f zero =
+        let d : w % 2 ≡ 1 = low-digit w ∙ ap digit e in
+        let z : (w - 1) % 2 ≡ 0 = omega arith in
+        rw (e, bit-at-zero (w - 1), z)
+    by true e f (suc j) =
+        let d : w % 2 ≡ 1 = low-digit w ∙ ap digit e in
+        let z : (w - 1) / 2 ≡ w / 2 = omega arith in
+        rw (bit-at-suc w j, bit-at-suc (w - 1) j, z, eqb·zero-suc j) (and-same (bit (w / 2) j))
+    by false e f zero = rw e
+    by false e f (suc j) =
+        let d : w % 2 ≡ 0 = low-digit w ∙ ap digit e in
+        let z : (w - 1) / 2 ≡ w / 2 - 1 = omega arith in
+        rw (bit-at-suc w j, bit-at-suc (w - 1) j, z, eqb·suc-suc, first-ext k (λ i. bit w (suc i)) (bit (w / 2)) (λ i l. bit-at-suc w i))
+        (f (omega arith) j)
+
+pub lowest-off : (k w i : ℕ) → w < 2 ^ k → i ≡ first k (bit w) → i < k → bit w i ≡ true → bitAnd w (w - 1) ≡ bitXor w (2 ^ i)
+lowest-off k w i h d l t =
+    word-ext k _ _ (and-lt k w (w - 1) h (omega arith)) (xor-lt k w (2 ^ i) h (pow-lt l))
+    (λ j m. bit-and w (w - 1) j ∙ rw (← d) at (lowest-cut k w (cell-pos w i t) h j) ∙ sym (bit-without w i j t))
+
 -- ---- sets inside of others
 -- the meet with a set that holds it is the set itself
 pub meet-inside : (k a b : ℕ) → a < 2 ^ k → Inside a b → bitAnd a b ≡ a
@@ -365,10 +401,6 @@ pub minus-sum : (k a b : ℕ) → a < 2 ^ k → bitXor a (bitAnd a b) + bitAnd a
 minus-sum k a b h =
     let e : bitAnd (bitAnd a b) a ≡ bitAnd a b = meet-inside k (bitAnd a b) a (lt-of-le-of-lt (and-le-l a b) h) (inside-meet a b .0) in
     omega (arith, xor-add-and a (bitAnd a b), and-comm a (bitAnd a b))
-
--- a set that has a cell is not 0
-pub cell-pos : (w i : ℕ) → bit w i ≡ true → 0 < w
-cell-pos w i t = pos-of-ne-zero (λ e. false≢true (sym (bit-zero i) ∙ rw e at t))
 
 pub minus-less : (k a b i : ℕ) → a < 2 ^ k → bit a i ≡ true → bit b i ≡ true → bitXor a (bitAnd a b) < a
 minus-less k a b i h s t = omega (arith, minus-sum k a b h, cell-pos (bitAnd a b) i (bit-and a b i ∙ rw (s, t)))

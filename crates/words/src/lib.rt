@@ -30,14 +30,6 @@ pub fn with(w: u64, i: u8) -> u64
     w | only(i)
 }
 
-// The cells of w but its cell i.
-pub fn without(w: u64, i: u8) -> u64
-    requires { ⌜ (i < 64) × (bit w i ≡ true) ⌝ }
-    ensures { λ r. ⌜ IsWithout w i r ⌝ }
-{
-    w ^ only(i)
-}
-
 // The cells that are in a or in b.
 pub fn union(a: u64, b: u64) -> u64
     ensures { λ r. ⌜ r ≡ bitOr a b ⌝ }
@@ -90,4 +82,12 @@ pub fn lowest(w: u64) -> u8
     ensures { λ r. ⌜ IsLowest w r ⌝ }
 {
     u64::trailing_zeros(w) as u8
+}
+
+// The cells of w but its lowest, cell i.
+pub fn without(w: u64, i: u8) -> u64
+    requires { ⌜ IsLowest w i ⌝ }
+    ensures { λ r. ⌜ IsWithout w i r ⌝ }
+{
+    w & (w - 1)
 }

@@ -12,7 +12,7 @@ use Rattle.search.proofs.by_lengths.Statement.{statement}
 use Rattle.search.proofs.by_lengths.Tie as tie
 
 abbrev Inv-loop : tie.InvT-loop
-Inv-loop sa la ta ea sb lb tb eb z lefts rights levels x y c s i₀ i = Ready sa ta sb tb x y × (c ≤ 4) × (s ≤ c + c) × Valued ea × Valued eb × Laid lefts rights levels × Standing (viewOf sa la ta) (viewOf sb lb tb) z ea eb x y c lefts rights levels × Settled (viewOf sa la ta) (viewOf sb lb tb) z ea eb x y c s × (s - c ≤ i) × (i ≤ s / 2 + 1) × LengthsTo (viewOf sa la ta) (viewOf sb lb tb) z ea eb x y c s i
+Inv-loop sa la ta ea sb lb tb eb z lefts rights levels x y c s i₀ i = Ready (viewOf sa la ta) (viewOf sb lb tb) x y × (c ≤ 4) × (s ≤ c + c) × Valued ea × Valued eb × Laid lefts rights levels × Standing (viewOf sa la ta) (viewOf sb lb tb) z ea eb x y c lefts rights levels × Settled (viewOf sa la ta) (viewOf sb lb tb) z ea eb x y c s × (s - c ≤ i) × (i ≤ s / 2 + 1) × LengthsTo (viewOf sa la ta) (viewOf sb lb tb) z ea eb x y c s i
 
 abbrev μ-loop : tie.MeasureT-loop
 μ-loop sa la ta ea sb lb tb eb z lefts rights levels x y c s i₀ i = s / 2 + 1 - i
@@ -29,7 +29,7 @@ sub-pair-at c = omega arith
 pair-at-requires : tie.Need-pair-at-requires Inv-loop μ-loop
 pair-at-requires c κs =
     let inv = c .before .before .loop .inv in
-    (asked _ _ _ _ _ _ _ _ (inv .0) (omega arith) (omega arith), omega arith, omega arith, inv .3, inv .4, inv .5, inv .6, settled-at _ _ _ _ _ _ _ _ _ _ (omega arith) (inv .7))
+    (asked _ _ _ _ _ _ (inv .0) (omega arith) (omega arith), omega arith, omega arith, inv .3, inv .4, inv .5, inv .6, settled-at _ _ _ _ _ _ _ _ _ _ (omega arith) (inv .7))
 
 returns : tie.Need-returns Inv-loop μ-loop
 returns c = lengths-found _ _ _ _ _ _ _ _ _ _ (c .before .before .before .before .before .loop .inv .10) (c .before .before .before .before .before .loop .inv .8) (c .before .before .before .before .loop-test .taken) _ (c .before .before .pair-at .ensures) (c .if2 .taken)

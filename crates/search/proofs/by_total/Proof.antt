@@ -14,7 +14,7 @@ use Rattle.search.proofs.by_total.Statement.{statement}
 use Rattle.search.proofs.by_total.Tie as tie
 
 abbrev Inv-loop : tie.InvT-loop
-Inv-loop sa la ta ea sb lb tb eb z x y c lefts₀ rights₀ levels₀ s₀ lefts rights levels s = Ready sa ta sb tb x y × (c ≤ 4) × (s ≤ c + c + 1) × Valued ea × Valued eb × Laid lefts rights levels × Standing (viewOf sa la ta) (viewOf sb lb tb) z ea eb x y c lefts rights levels × Settled (viewOf sa la ta) (viewOf sb lb tb) z ea eb x y c s
+Inv-loop sa la ta ea sb lb tb eb z x y c lefts₀ rights₀ levels₀ s₀ lefts rights levels s = Ready (viewOf sa la ta) (viewOf sb lb tb) x y × (c ≤ 4) × (s ≤ c + c + 1) × Valued ea × Valued eb × Laid lefts rights levels × Standing (viewOf sa la ta) (viewOf sb lb tb) z ea eb x y c lefts rights levels × Settled (viewOf sa la ta) (viewOf sb lb tb) z ea eb x y c s
 
 abbrev μ-loop : tie.MeasureT-loop
 μ-loop sa la ta ea sb lb tb eb z x y c lefts₀ rights₀ levels₀ s₀ lefts rights levels s = c + c + 1 - s
@@ -45,7 +45,7 @@ add-loop c = omega arith
 ready-requires : tie.Need-ready-requires Inv-loop μ-loop
 ready-requires c κs =
     let inv = c .before .before .before .loop .inv in
-    (asked _ _ _ _ _ _ _ _ (inv .0) (inv .1) (inv .1), inv .4, inv .5, inv .6)
+    (asked _ _ _ _ _ _ (inv .0) (inv .1) (inv .1), inv .4, inv .5, inv .6)
 
 no-pair-requires : tie.Need-no-pair-requires Inv-loop μ-loop
 no-pair-requires c κs = search needs

@@ -17,7 +17,7 @@ element-copy-out-if1 : tie.Need-element-copy-out-if1
 element-copy-out-if1 c = search needs
 
 returns : tie.Need-returns
-returns c = why-link _ _ _ _ _ _ _ _ (c .before .before .before .pre .0 .left) (c .before .before .before .pre .0 .cell) _ (c .before .before .one-link .ensures) (c .if1 .taken) _ refl refl refl
+returns c = why-link _ _ _ _ _ _ _ _ (c .before .before .before .pre .0 .left .opened) (c .before .before .before .pre .0 .cell) _ (c .before .before .one-link .ensures) (c .if1 .taken) _ refl refl refl
 
 by-total-requires : tie.Need-by-total-requires
 by-total-requires c κs = search needs
@@ -25,7 +25,7 @@ by-total-requires c κs = search needs
 returns-2 : tie.Need-returns-2
 returns-2 c =
     let start = c .before .before .before .before .before .before .pre in
-    why-two _ _ _ _ _ _ _ _ (start .0 .left) (start .0 .cell) _ (c .before .before .before .before .before .one-link .ensures) (c .before .before .before .if1 .left)
+    why-two _ _ _ _ _ _ _ _ (start .0 .left .opened) (start .0 .cell) _ (c .before .before .before .before .before .one-link .ensures) (c .before .before .before .if1 .left)
     (start .1) _ (c .before .before .by-total .ensures) _ refl refl refl
 
 pub reason-for-spec : {M : Type 1} → statement M

@@ -2,14 +2,14 @@
 use Prim.Native.Nat.{_-_, _≤_}
 use native.Mathlib.Omega.{arith}
 use borrow.Author.Needs.{needs}
-use Rattle.search_links.specs.Hops.{viewOf, Opened}
+use Rattle.search_links.specs.Hops.{viewOf, Ordered}
 use Rattle.search_cover.specs.Covering.{Celled, BeyondCells}
 use Rattle.search_cover.proofs.Levels.{onward-start, onward-next, onward-skip, onward-end}
 use Rattle.search_cover.proofs.cut_cells.Statement.{statement}
 use Rattle.search_cover.proofs.cut_cells.Tie as tie
 
 abbrev Inv-loop : tie.InvT-loop
-Inv-loop sa la ta sb lb tb z l r lefts₀ rights₀ next₀ lefts rights next = Opened sa ta × Opened sb tb × Celled l r × (next ≤ 64) × BeyondCells (viewOf sa la ta) (viewOf sb lb tb) z l r next lefts₀ rights₀ lefts rights
+Inv-loop sa la ta sb lb tb z l r lefts₀ rights₀ next₀ lefts rights next = Ordered (viewOf sa la ta) × Ordered (viewOf sb lb tb) × Celled l r × (next ≤ 64) × BeyondCells (viewOf sa la ta) (viewOf sb lb tb) z l r next lefts₀ rights₀ lefts rights
 
 abbrev μ-loop : tie.MeasureT-loop
 μ-loop sa la ta sb lb tb z l r lefts₀ rights₀ next₀ lefts rights next = 64 - next

@@ -4,15 +4,15 @@ use mathlib.Core.Path.{_≡_}
 use native.Mathlib.Omega.{arith}
 use borrow.Author.Needs.{needs}
 use lib.ListN.{getD}
-use Rattle.search_links.specs.Hops.{viewOf, Opened}
+use Rattle.search_links.specs.Hops.{viewOf, Ordered}
 use Rattle.search_links.specs.Sets.{imageOf}
-use Rattle.search_steps.specs.Laws.{until-few}
-use Rattle.search_cover.proofs.Levels.{link-low, Passed, passed-start, passed-next, passed-end}
+use Rattle.search_links.specs.Laws.{until-few, link-low}
+use Rattle.search_cover.proofs.Levels.{Passed, passed-start, passed-next, passed-end}
 use Rattle.search_cover.proofs.cut_links.Statement.{statement}
 use Rattle.search_cover.proofs.cut_links.Tie as tie
 
 abbrev Inv-loop : tie.InvT-loop
-Inv-loop sa la ta sb lb tb z x w lefts₀ rights₀ until k₀ label₀ image₀ lefts rights k label image = Opened sa ta × Opened sb tb × (x < 64) × (until ≡ getD sa (x + 1) 0) × (until ≤ 512) × (getD sa x 0 ≤ k) × (image ≡ imageOf (viewOf sb lb tb) w label) × Passed (viewOf sa la ta) (viewOf sb lb tb) z x w lefts₀ rights₀ lefts rights k
+Inv-loop sa la ta sb lb tb z x w lefts₀ rights₀ until k₀ label₀ image₀ lefts rights k label image = Ordered (viewOf sa la ta) × Ordered (viewOf sb lb tb) × (x < 64) × (until ≡ getD sa (x + 1) 0) × (until ≤ 512) × (getD sa x 0 ≤ k) × (image ≡ imageOf (viewOf sb lb tb) w label) × Passed (viewOf sa la ta) (viewOf sb lb tb) z x w lefts₀ rights₀ lefts rights k
 
 abbrev μ-loop : tie.MeasureT-loop
 μ-loop sa la ta sb lb tb z x w lefts₀ rights₀ until k₀ label₀ image₀ lefts rights k label image = until - k
@@ -48,19 +48,19 @@ image-by-requires : tie.Need-image-by-requires Inv-loop μ-loop
 image-by-requires c κs = search needs
 
 cast-meet : tie.Need-cast-meet Inv-loop μ-loop
-cast-meet c = omega (arith, link-low _ _ _ _ _ _ (c .before .before .before .before .loop .inv .0) (c .before .before .before .before .loop .inv .2) (c .before .before .before .before .loop .inv .3) (c .before .before .before .loop-test .taken) (c .before .before .target .ensures))
+cast-meet c = omega (arith, link-low _ _ _ _ _ _ (c .before .before .before .before .loop .inv .0 .opened) (c .before .before .before .before .loop .inv .2) (c .before .before .before .before .loop .inv .3) (c .before .before .target .ensures) (c .before .before .before .loop-test .taken))
 
 mul-meet : tie.Need-mul-meet Inv-loop μ-loop
-mul-meet c = omega (arith, link-low _ _ _ _ _ _ (c .before .before .before .before .loop .inv .0) (c .before .before .before .before .loop .inv .2) (c .before .before .before .before .loop .inv .3) (c .before .before .before .loop-test .taken) (c .before .before .target .ensures))
+mul-meet c = omega (arith, link-low _ _ _ _ _ _ (c .before .before .before .before .loop .inv .0 .opened) (c .before .before .before .before .loop .inv .2) (c .before .before .before .before .loop .inv .3) (c .before .before .target .ensures) (c .before .before .before .loop-test .taken))
 
 element-copy-out-meet : tie.Need-element-copy-out-meet Inv-loop μ-loop
-element-copy-out-meet c = link-low _ _ _ _ _ _ (c .before .before .before .before .loop .inv .0) (c .before .before .before .before .loop .inv .2) (c .before .before .before .before .loop .inv .3) (c .before .before .before .loop-test .taken) (c .before .before .target .ensures)
+element-copy-out-meet c = link-low _ _ _ _ _ _ (c .before .before .before .before .loop .inv .0 .opened) (c .before .before .before .before .loop .inv .2) (c .before .before .before .before .loop .inv .3) (c .before .before .target .ensures) (c .before .before .before .loop-test .taken)
 
 meet-requires : tie.Need-meet-requires Inv-loop μ-loop
 meet-requires c κs = search needs
 
 cut-requires : tie.Need-cut-requires Inv-loop μ-loop
-cut-requires c κs = (search needs, link-low _ _ _ _ _ _ (c .before .before .before .before .before .before .before .before .loop .inv .0) (c .before .before .before .before .before .before .before .before .loop .inv .2) (c .before .before .before .before .before .before .before .before .loop .inv .3) (c .before .before .before .before .before .before .before .loop-test .taken) (c .before .before .before .before .before .before .target .ensures))
+cut-requires c κs = (search needs, link-low _ _ _ _ _ _ (c .before .before .before .before .before .before .before .before .loop .inv .0 .opened) (c .before .before .before .before .before .before .before .before .loop .inv .2) (c .before .before .before .before .before .before .before .before .loop .inv .3) (c .before .before .before .before .before .before .target .ensures) (c .before .before .before .before .before .before .before .loop-test .taken))
 
 add-k : tie.Need-add-k Inv-loop μ-loop
 add-k c = search needs

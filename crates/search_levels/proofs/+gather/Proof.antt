@@ -2,7 +2,7 @@
 use mathlib.Core.Path.{refl}
 use native.Mathlib.Omega.{arith}
 use borrow.Author.Needs.{needs}
-use Rattle.search_links.specs.Hops.{viewOf, Opened}
+use Rattle.search_links.specs.Hops.{viewOf, Ordered}
 use Rattle.search_tables.specs.Tips.{TableRoom}
 use Rattle.search_steps.specs.Tables.{lastPlace}
 use Rattle.search_steps.specs.Laws.{part-further}
@@ -31,7 +31,7 @@ abbrev given : ℕ → gather-lts.Claims
 given t = (fill-reads.Asked, fill-reads.Learnt, gather-below t, gather.Post)
 
 abbrev gather-Inv-loop : gather-lts.InvT-loop
-gather-Inv-loop sa la ta sb lb tb eb z wide l r first m more lefts₀ rights₀ base n count₀ ends₀ sets₀ at₀ lefts rights count ends sets at = Opened sa ta × Opened sb tb × (m ≤ 64) × (2 ≤ more) × (at ≤ lastPlace) × TableRoom ends sets 0 × Gathering (viewOf sa la ta) (viewOf sb lb tb) z eb wide l r first m lefts₀ rights₀ base n more at lefts rights count
+gather-Inv-loop sa la ta sb lb tb eb z wide l r first m more lefts₀ rights₀ base n count₀ ends₀ sets₀ at₀ lefts rights count ends sets at = Ordered (viewOf sa la ta) × Ordered (viewOf sb lb tb) × (m ≤ 64) × (2 ≤ more) × (at ≤ lastPlace) × TableRoom ends sets 0 × Gathering (viewOf sa la ta) (viewOf sb lb tb) z eb wide l r first m lefts₀ rights₀ base n more at lefts rights count
 
 abbrev gather-μ-loop : gather-lts.MeasureT-loop
 gather-μ-loop sa la ta sb lb tb eb z wide l r first m more lefts₀ rights₀ base n count₀ ends₀ sets₀ at₀ lefts rights count ends sets at = lastPlace - at

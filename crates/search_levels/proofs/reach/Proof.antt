@@ -1,7 +1,7 @@
 -- `search_levels::reach` meets its contract. The invariant: the levels stand of whatever they stood.
 use native.Mathlib.Omega.{arith}
 use Prim.Native.Nat.{_-_, _≤_}
-use Rattle.search_links.specs.Hops.{viewOf, Opened}
+use Rattle.search_links.specs.Hops.{viewOf, Ordered}
 use Rattle.search_levels.specs.Depths.{Became}
 use Rattle.search_levels.proofs.Deepening.{fewer-left, became-same, became-trans}
 use borrow.Author.Needs.{needs}
@@ -9,7 +9,7 @@ use Rattle.search_levels.proofs.reach.Statement.{statement}
 use Rattle.search_levels.proofs.reach.Tie as tie
 
 abbrev Inv-loop : tie.InvT-loop
-Inv-loop sa la ta sb lb tb eb z lefts₀ rights₀ n c small at₀ lefts rights at = Opened sa ta × Opened sb tb × (n ≤ 4) × Became (viewOf sa la ta) (viewOf sb lb tb) z eb lefts₀ rights₀ at₀ lefts rights at
+Inv-loop sa la ta sb lb tb eb z lefts₀ rights₀ n c small at₀ lefts rights at = Ordered (viewOf sa la ta) × Ordered (viewOf sb lb tb) × (n ≤ 4) × Became (viewOf sa la ta) (viewOf sb lb tb) z eb lefts₀ rights₀ at₀ lefts rights at
 
 abbrev μ-loop : tie.MeasureT-loop
 μ-loop sa la ta sb lb tb eb z lefts₀ rights₀ n c small at₀ lefts rights at = n - at .known

@@ -47,19 +47,19 @@ first-path-next-link-requires : (t : ℕ) → first-path-lts.Need-next-link-requ
 first-path-next-link-requires t c κs = (search needs, search needs, omega (arith, pos-of-ne-zero (c .if1 .left)), search needs, search needs, ahead-less _ _ _ _ _ _ _ _ _ _ _ _ _ (c .if1 .left) (c .before .pre .1 .5))
 
 first-path-target-requires : (t : ℕ) → first-path-lts.Need-target-requires (given t) (first-path-at t) first-path.Post
-first-path-target-requires t c κs = next-below _ _ _ _ _ _ _ _ _ _ _ _ _ _ (c .next-link .ensures) (c .before .before .pre .1 .0 .left) (c .before .before .pre .1 .1)
+first-path-target-requires t c κs = next-below _ _ _ _ _ _ _ _ _ _ _ _ _ _ (c .next-link .ensures) (c .before .before .pre .1 .0 .left .opened) (c .before .before .pre .1 .1)
 
 first-path-label-requires : (t : ℕ) → first-path-lts.Need-label-requires (given t) (first-path-at t) first-path.Post
-first-path-label-requires t c κs = next-below _ _ _ _ _ _ _ _ _ _ _ _ _ _ (c .before .next-link .ensures) (c .before .before .before .pre .1 .0 .left) (c .before .before .before .pre .1 .1)
+first-path-label-requires t c κs = next-below _ _ _ _ _ _ _ _ _ _ _ _ _ _ (c .before .next-link .ensures) (c .before .before .before .pre .1 .0 .left .opened) (c .before .before .before .pre .1 .1)
 
 first-path-step-requires : (t : ℕ) → first-path-lts.Need-step-requires (given t) (first-path-at t) first-path.Post
-first-path-step-requires t c κs = (search needs, next-low _ _ _ _ _ _ _ _ _ _ _ _ _ _ (c .before .before .next-link .ensures) (c .before .before .before .before .pre .1 .0 .left) (c .before .before .before .before .pre .1 .1) _ (c .before .target .ensures))
+first-path-step-requires t c κs = (search needs, next-low _ _ _ _ _ _ _ _ _ _ _ _ _ _ (c .before .before .next-link .ensures) (c .before .before .before .before .pre .1 .0 .left .opened) (c .before .before .before .before .pre .1 .1) _ (c .before .target .ensures))
 
 first-path-sub-first-path : (t : ℕ) → first-path-lts.Need-sub-first-path (given t) (first-path-at t) first-path.Post
 first-path-sub-first-path t c = omega (arith, pos-of-ne-zero (c .before .before .before .before .if1 .left))
 
 first-path-first-path-requires : (t : ℕ) → first-path-lts.Need-first-path-requires (given t) (first-path-at t) first-path.Post
-first-path-first-path-requires t c κs = (omega (arith, pos-of-ne-zero (c .before .before .before .before .if1 .left), c .before .before .before .before .before .pre .0), (search needs, next-low _ _ _ _ _ _ _ _ _ _ _ _ _ _ (c .before .before .before .next-link .ensures) (c .before .before .before .before .before .pre .1 .0 .left) (c .before .before .before .before .before .pre .1 .1) _ (c .before .before .target .ensures), omega arith, search needs, search needs, next-ahead _ _ _ _ _ _ _ _ _ _ _ _ _ _ (c .before .before .before .next-link .ensures) _ _ _ (c .before .label .ensures) (c .before .before .target .ensures) (c .step .ensures)))
+first-path-first-path-requires t c κs = (omega (arith, pos-of-ne-zero (c .before .before .before .before .if1 .left), c .before .before .before .before .before .pre .0), (search needs, next-low _ _ _ _ _ _ _ _ _ _ _ _ _ _ (c .before .before .before .next-link .ensures) (c .before .before .before .before .before .pre .1 .0 .left .opened) (c .before .before .before .before .before .pre .1 .1) _ (c .before .before .target .ensures), omega arith, search needs, search needs, next-ahead _ _ _ _ _ _ _ _ _ _ _ _ _ _ (c .before .before .before .next-link .ensures) _ _ _ (c .before .label .ensures) (c .before .before .target .ensures) (c .step .ensures)))
 
 first-path-behind-requires : (t : ℕ) → first-path-lts.Need-behind-requires (given t) (first-path-at t) first-path.Post
 first-path-behind-requires t c κs = omega (arith, pos-of-ne-zero (c .before .before .before .before .before .before .if1 .left), c .before .first-path .ensures .shaped .long)

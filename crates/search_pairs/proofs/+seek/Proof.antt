@@ -34,7 +34,7 @@ abbrev given : ℕ → seek-lts.Claims
 given t = (two-tips-reads.Asked, two-tips-reads.Learnt, seek-below t, seek.Post, fill-reads.Asked, fill-reads.Learnt)
 
 abbrev seek-Inv-loop : seek-lts.InvT-loop
-seek-Inv-loop sa la ta ea sb lb tb eb z pl pr pn more ql qr qn rest turned l₀ r₀ at₀ l r at = Seeking sa ta sb tb pn qn × (more ≤ 4) × (rest ≤ 4) × (turned ≡ true → rest ≡ 0) × (more ≡ 0 → ⊥) × (at ≤ lastPlace) × TableRoom l r 0 × Below (viewOf sa la ta) (viewOf sb lb tb) z ea eb turned ql qr qn rest pl pr pn (more - 1) at
+seek-Inv-loop sa la ta ea sb lb tb eb z pl pr pn more ql qr qn rest turned l₀ r₀ at₀ l r at = Seeking (viewOf sa la ta) (viewOf sb lb tb) pn qn × (more ≤ 4) × (rest ≤ 4) × (turned ≡ true → rest ≡ 0) × (more ≡ 0 → ⊥) × (at ≤ lastPlace) × TableRoom l r 0 × Below (viewOf sa la ta) (viewOf sb lb tb) z ea eb turned ql qr qn rest pl pr pn (more - 1) at
 
 abbrev seek-μ-loop : seek-lts.MeasureT-loop
 seek-μ-loop sa la ta ea sb lb tb eb z pl pr pn more ql qr qn rest turned l₀ r₀ at₀ l r at = lastPlace - at

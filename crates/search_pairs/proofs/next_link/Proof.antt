@@ -5,15 +5,15 @@ use mathlib.Core.Path.{_≡_}
 use Prim.Native.Nat.{_+_, _-_, _≤_, _<_}
 use lib.ListN.{getD}
 use Rattle.search_links.specs.Hops.{viewOf}
-use Rattle.search_steps.specs.Laws.{until-few}
+use Rattle.search_links.specs.Laws.{start-few, until-few, link-low}
 use Rattle.search_pairs.specs.Tails.{Seeking, Ahead}
-use Rattle.search_pairs.proofs.Loops.{start-few, link-low, LinksTo, links-start, links-next, links-found, links-end}
+use Rattle.search_pairs.proofs.Loops.{LinksTo, links-start, links-next, links-found, links-end}
 use borrow.Author.Needs.{needs}
 use Rattle.search_pairs.proofs.next_link.Statement.{statement}
 use Rattle.search_pairs.proofs.next_link.Tie as tie
 
 abbrev Inv-loop : tie.InvT-loop
-Inv-loop sa la ta ea sb lb tb eb z x w more ql qr qn rest turned until k₀ k = Seeking sa ta sb tb 1 qn × (x < 64) × (more < 4) × (rest ≤ 4) × (turned ≡ true → rest ≡ 0) × (until ≡ getD sa (x + 1) 0) × (until ≤ 512) × (getD sa x 0 ≤ k) × (k ≤ 512) × Ahead (viewOf sa la ta) (viewOf sb lb tb) z ea eb turned x w (more + 1) ql qr qn rest × LinksTo (viewOf sa la ta) (viewOf sb lb tb) z ea eb turned ql qr qn rest x w more k
+Inv-loop sa la ta ea sb lb tb eb z x w more ql qr qn rest turned until k₀ k = Seeking (viewOf sa la ta) (viewOf sb lb tb) 1 qn × (x < 64) × (more < 4) × (rest ≤ 4) × (turned ≡ true → rest ≡ 0) × (until ≡ getD sa (x + 1) 0) × (until ≤ 512) × (getD sa x 0 ≤ k) × (k ≤ 512) × Ahead (viewOf sa la ta) (viewOf sb lb tb) z ea eb turned x w (more + 1) ql qr qn rest × LinksTo (viewOf sa la ta) (viewOf sb lb tb) z ea eb turned ql qr qn rest x w more k
 
 abbrev μ-loop : tie.MeasureT-loop
 μ-loop sa la ta ea sb lb tb eb z x w more ql qr qn rest turned until k₀ k = until - k
@@ -46,10 +46,10 @@ label-requires : tie.Need-label-requires Inv-loop μ-loop
 label-requires c κs = search needs
 
 step-requires : tie.Need-step-requires Inv-loop μ-loop
-step-requires c κs = (search needs, link-low _ _ _ _ _ _ (c .before .before .before .loop .inv .0 .left) (c .before .before .before .loop .inv .1) (c .before .before .before .loop .inv .5) (c .before .before .loop-test .taken) (c .before .target .ensures))
+step-requires c κs = (search needs, link-low _ _ _ _ _ _ (c .before .before .before .loop .inv .0 .left .opened) (c .before .before .before .loop .inv .1) (c .before .before .before .loop .inv .5) (c .before .target .ensures) (omega (arith, c .before .before .loop-test .taken)))
 
 leads-on-requires : tie.Need-leads-on-requires Inv-loop μ-loop
-leads-on-requires c κs = (search needs, link-low _ _ _ _ _ _ (c .before .before .before .before .loop .inv .0 .left) (c .before .before .before .before .loop .inv .1) (c .before .before .before .before .loop .inv .5) (c .before .before .before .loop-test .taken) (c .before .before .target .ensures), omega arith, search needs, search needs)
+leads-on-requires c κs = (search needs, link-low _ _ _ _ _ _ (c .before .before .before .before .loop .inv .0 .left .opened) (c .before .before .before .before .loop .inv .1) (c .before .before .before .before .loop .inv .5) (c .before .before .target .ensures) (omega (arith, c .before .before .before .loop-test .taken)), omega arith, search needs, search needs)
 
 returns : tie.Need-returns Inv-loop μ-loop
 returns c = search links-found

@@ -3,15 +3,15 @@ use native.Mathlib.Omega.{arith}
 use mathlib.Core.Path.{_≡_, refl}
 use Prim.Native.Nat.{_-_, _≤_}
 use lib.ListN.{length}
-use Rattle.search_links.specs.Hops.{viewOf, Opened}
-use Rattle.search_steps.specs.Tables.{everyLabel, Unites}
-use Rattle.search_steps.proofs.Exits.{opened-bounded, Filling, filling-start, filling-next, filling-full, filling-end}
+use Rattle.search_links.specs.Hops.{viewOf, Ordered, everyLabel}
+use Rattle.search_steps.specs.Tables.{Unites}
+use Rattle.search_steps.proofs.Exits.{Filling, filling-start, filling-next, filling-full, filling-end}
 use borrow.Author.Needs.{needs}
 use Rattle.search_steps.proofs.fill.Statement.{statement}
 use Rattle.search_steps.proofs.fill.Tie as tie
 
 abbrev Inv-loop : tie.InvT-loop
-Inv-loop sa la ta sb lb tb eb z wide lefts rights first n at ends₀ sets₀ base count here there rows₀ total₀ label₀ from₀ ends sets rows total label from = Opened sa ta × Opened sb tb × (n ≤ 64) × Unites lefts first n here × Unites rights first n there × (length rows ≡ 128) × Filling (viewOf sa la ta) (viewOf sb lb tb) z eb wide lefts rights first n at ends₀ sets₀ base count ends sets total label from
+Inv-loop sa la ta sb lb tb eb z wide lefts rights first n at ends₀ sets₀ base count here there rows₀ total₀ label₀ from₀ ends sets rows total label from = Ordered (viewOf sa la ta) × Ordered (viewOf sb lb tb) × (n ≤ 64) × Unites lefts first n here × Unites rights first n there × (length rows ≡ 128) × Filling (viewOf sa la ta) (viewOf sb lb tb) z eb wide lefts rights first n at ends₀ sets₀ base count ends sets total label from
 
 abbrev μ-loop : tie.MeasureT-loop
 μ-loop sa la ta sb lb tb eb z wide lefts rights first n at ends₀ sets₀ base count here there rows₀ total₀ label₀ from₀ ends sets rows total label from = everyLabel - label
@@ -23,7 +23,7 @@ union-of-requires-2 : tie.Need-union-of-requires-2 Inv-loop μ-loop
 union-of-requires-2 c κs = search needs
 
 next-label-requires : tie.Need-next-label-requires Inv-loop μ-loop
-next-label-requires c κs = (search opened-bounded, omega arith)
+next-label-requires c κs = (search needs, omega arith)
 
 begin-requires : tie.Need-begin-requires Inv-loop μ-loop
 begin-requires c κs = search needs
@@ -46,26 +46,20 @@ put-rows-requires-2 c κs = (search needs, omega arith, search needs)
 fill-label-requires : tie.Need-fill-label-requires Inv-loop μ-loop
 fill-label-requires c κs = (search needs, search needs, search needs)
 
-mul-t35 : tie.Need-mul-t35 Inv-loop μ-loop
-mul-t35 c = omega arith
+mul-t36 : tie.Need-mul-t36 Inv-loop μ-loop
+mul-t36 c = omega arith
 
-add-t36 : tie.Need-add-t36 Inv-loop μ-loop
-add-t36 c = omega (arith, c .before .before .fill-label .ensures .full (c .before .if1 .taken) .0)
+add-t37 : tie.Need-add-t37 Inv-loop μ-loop
+add-t37 c = omega (arith, c .before .before .fill-label .ensures .full (c .before .if1 .taken) .0)
 
 returns : tie.Need-returns Inv-loop μ-loop
-returns c = filling-full _ _ _ _ _ _ _ _ _ _ _ _ _ _ (c .before .before .before .before .before .before .before .before .before .before .before .loop .inv .2) _ (c .before .before .before .before .before .before .before .before .before .before .before .loop .inv .3) _ _ _ _ _ (c .before .before .before .before .before .before .before .before .before .before .before .loop .inv .6) _ (c .before .before .before .before .before .before .before .before .before .before .before .loop .inv .4) _ _ _ _ refl (c .before .before .before .before .before .before .before .before .put-rows .ensures) (c .before .before .before .before .before .before .put-rows2 .ensures) (c .before .before .before .before .before .before .before .before .before .before .loop-test .taken) _ _ _ (c .before .before .fill-label .ensures) (c .before .before .before .before .before .before .before .before .before .before .before .loop .inv .0) (c .before .if1 .taken) _ refl refl
-
-add-next-label : tie.Need-add-next-label Inv-loop μ-loop
-add-next-label c = omega arith
-
-next-label-requires-2 : tie.Need-next-label-requires-2 Inv-loop μ-loop
-next-label-requires-2 c κs = (opened-bounded _ _ (c .before .before .before .before .before .before .before .before .before .before .loop .inv .0), omega arith)
+returns c = filling-full _ _ _ _ _ _ _ _ _ _ _ _ _ _ (c .before .before .before .before .before .before .before .before .before .before .before .loop .inv .2) _ (c .before .before .before .before .before .before .before .before .before .before .before .loop .inv .3) _ _ _ _ _ (c .before .before .before .before .before .before .before .before .before .before .before .loop .inv .6) _ (c .before .before .before .before .before .before .before .before .before .before .before .loop .inv .4) _ _ _ _ refl (c .before .before .before .before .before .before .before .before .put-rows .ensures .0) (c .before .before .before .before .before .before .put-rows2 .ensures .0) (c .before .before .before .before .before .before .before .before .before .before .loop-test .taken) _ _ _ (c .before .before .fill-label .ensures) (c .before .before .before .before .before .before .before .before .before .before .before .loop .inv .0 .opened) (c .before .if1 .taken) _ refl refl
 
 loop-less : tie.Need-loop-less Inv-loop μ-loop
-loop-less c = omega (arith, c .next-label2 .ensures .onward, c .next-label2 .ensures .most)
+loop-less c = omega (arith, c .before .before .before .before .before .before .before .put-rows .ensures .1 .onward, c .before .before .before .before .before .before .before .put-rows .ensures .1 .most)
 
 loop-again : tie.Need-loop-again Inv-loop μ-loop
-loop-again c = (search needs, search needs, search needs, search needs, search needs, search needs, filling-next _ _ _ _ _ _ _ _ _ _ _ _ _ _ (c .before .before .before .before .before .before .before .before .before .before .before .loop .inv .2) _ (c .before .before .before .before .before .before .before .before .before .before .before .loop .inv .3) _ _ _ _ _ (c .before .before .before .before .before .before .before .before .before .before .before .loop .inv .6) _ (c .before .before .before .before .before .before .before .before .before .before .before .loop .inv .4) _ _ _ _ refl (c .before .before .before .before .before .before .before .before .put-rows .ensures) (c .before .before .before .before .before .before .put-rows2 .ensures) (c .before .before .before .before .before .before .before .before .before .before .loop-test .taken) _ _ _ (c .before .before .fill-label .ensures) (c .before .before .before .before .before .before .before .before .before .before .before .loop .inv .0) (c .before .if1 .left) _ (c .next-label2 .ensures))
+loop-again c = (search needs, search needs, search needs, search needs, search needs, search needs, filling-next _ _ _ _ _ _ _ _ _ _ _ _ _ _ (c .before .before .before .before .before .before .before .before .before .before .loop .inv .2) _ (c .before .before .before .before .before .before .before .before .before .before .loop .inv .3) _ _ _ _ _ (c .before .before .before .before .before .before .before .before .before .before .loop .inv .6) _ (c .before .before .before .before .before .before .before .before .before .before .loop .inv .4) _ _ _ _ refl (c .before .before .before .before .before .before .before .put-rows .ensures .0) (c .before .before .before .before .before .put-rows2 .ensures .0) (c .before .before .before .before .before .before .before .before .before .loop-test .taken) _ _ _ (c .before .fill-label .ensures) (c .before .before .before .before .before .before .before .before .before .before .loop .inv .0 .opened) (c .if1 .left) _ (c .before .before .before .before .before .before .before .put-rows .ensures .1))
 
 returns-2 : tie.Need-returns-2 Inv-loop μ-loop
 returns-2 c = filling-end _ _ _ _ _ _ _ _ _ _ _ _ _ _ (c .before .loop .inv .2) _ (c .before .loop .inv .3) _ _ _ _ _ (c .before .loop .inv .6) (c .loop-test .left) _ refl refl
@@ -86,11 +80,9 @@ fill-spec =
     cast-put-rows-2
     put-rows-requires-2
     fill-label-requires
-    mul-t35
-    add-t36
+    mul-t36
+    add-t37
     returns
-    add-next-label
-    next-label-requires-2
     loop-less
     loop-again
     returns-2)

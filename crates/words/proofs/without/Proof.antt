@@ -1,18 +1,16 @@
 -- `words::without` meets its contract.
-use mathlib.Core.Path.{ap}
-use borrow.Author.Needs.{needs}
-use lib.Bits.{bitXor}
-use Rattle.words.specs.Laws.{without-less}
+use native.Mathlib.Omega.{arith}
+use Rattle.words.specs.Laws.{cell-pos, lowest-off, without-less}
 use Rattle.words.proofs.without.Statement.{statement}
 use Rattle.words.proofs.without.Tie as tie
 
-only-requires : tie.Need-only-requires
-only-requires c κs = search needs
+sub-result : tie.Need-sub-result
+sub-result c = omega (arith, cell-pos _ _ (c .pre .there))
 
 returns : tie.Need-returns
 returns c =
-    let b = c .before in
-    record { is = ap (bitXor (b .args .w)) (c .only .ensures); less = rw (c .only .ensures) (without-less 64 (b .args .w) (b .args .i) (b .fits .w .fits) (b .pre .0) (b .pre .1)) }
+    let e = lowest-off 64 (c .args .w) (c .args .i) (c .fits .w .fits) (c .pre .is) (c .pre .small) (c .pre .there) in
+    record { is = e; less = rw e (without-less 64 (c .args .w) (c .args .i) (c .fits .w .fits) (c .pre .small) (c .pre .there)) }
 
 pub without-spec : {M : Type 1} → statement M
-without-spec = tie.close (tie.spec only-requires returns)
+without-spec = tie.close (tie.spec sub-result returns)
