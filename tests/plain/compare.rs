@@ -151,6 +151,17 @@ fn passing(rows: &[u64; 64], mut word: u64) -> u64 {
     out
 }
 
+/// The cells that pass a comparison with some cell of the word: of those that pass same with each other one is asked. The first rows are those of same.
+fn by_value(ends: &[[u64; 64]; 2], t: usize, mut word: u64) -> u64 {
+    let mut out = 0;
+    while word != 0 {
+        let x = word.trailing_zeros() as usize;
+        out |= ends[t][x];
+        word = minus(word & (word - 1), ends[0][x]);
+    }
+    out
+}
+
 /// Before two paths of so many links in all are looked for, all levels are filled.
 const LATE: usize = 3;
 
@@ -235,15 +246,15 @@ impl Table {
     }
 
     /// The cells and the set of each class.
-    fn classes(&self) -> impl Iterator<Item = (u64, u64)> + '_ {
+    fn classes(&self) -> impl DoubleEndedIterator<Item = (u64, u64)> + '_ {
         let lefts = self.lefts[..self.count].iter();
         let rights = self.rights[..self.count].iter();
         lefts.zip(rights).map(|(&left, &right)| (left, right))
     }
 
-    /// The cells that are in no class with a set inside of w.
+    /// The cells that are in no class with a set inside of w. The last classes are asked first.
     fn uncovered(&self, mut cells: u64, w: u64) -> u64 {
-        for (left, right) in self.classes() {
+        for (left, right) in self.classes().rev() {
             if inside(right, w) {
                 cells = minus(cells, left);
                 if cells == 0 {
@@ -291,11 +302,21 @@ impl Table {
     }
 
     /// Puts the tips of the cells with the set w in, from class `base` on, but for those that the table covers; false where they need another
-    /// class than the `most` there are.
-    fn put(&mut self, base: usize, cells: u64, w: u64, most: usize) -> bool {
-        let new = self.uncovered(cells, w);
+    /// class than the `most` there are. With rows of same, the tips of all cells that pass same with one of them are put in.
+    fn put(
+        &mut self,
+        base: usize,
+        cells: u64,
+        w: u64,
+        most: usize,
+        same: Option<&[u64; 64]>,
+    ) -> bool {
+        let mut new = self.uncovered(cells, w);
         if new == 0 {
             return true;
+        }
+        if let Some(same) = same {
+            new |= passing(same, new);
         }
         let e = self.place(base, w);
         if e == self.count && e >= most {
@@ -425,10 +446,11 @@ impl<const PLACES: usize> Search<'_, PLACES> {
             0 => ROOM,
             _ => PLACES,
         };
+        let same = wide.then_some(&self.one.ends[0]);
         while cells != 0 {
             let row = self.related[cells.trailing_zeros() as usize];
             let mates = rowmates(self.related, cells, row);
-            if !part.put(base, mates, self.seen_as(wide, s & row), most) {
+            if !part.put(base, mates, self.seen_as(wide, s & row), most, same) {
                 return false;
             }
             cells = minus(cells, mates);
@@ -483,8 +505,8 @@ impl<const PLACES: usize> Search<'_, PLACES> {
     /// What the class with the ends l and the set r asks for one comparison.
     fn asked(&self, t: usize, l: u64, r: u64) -> Asked {
         Asked {
-            ends: passing(&self.one.ends[t], l),
-            answers: passing(&self.other.ends[t], r),
+            ends: by_value(&self.one.ends, t, l),
+            answers: by_value(&self.other.ends, t, r),
         }
     }
 

@@ -6,14 +6,15 @@ use Prim.Native.Nat.{ℕ, _+_, _-_, _/_, _≤_, _<_}
 use native.Mathlib.Nat.{eq-or-lt-of-le}
 use native.Mathlib.Omega.{arith}
 use Rattle.search_links.specs.Hops.{View}
+use Rattle.search_links.specs.Sets.{Valued}
 use Rattle.search_pairs.specs.declared.Pair.{Pair}
 use Rattle.search_pairs.specs.Pairs.{Asked, Clear, Sought}
 use Rattle.search_cover.specs.Covering.{NoneFails}
 use Rattle.search_levels.specs.Depths.{Settled}
 use Rattle.search.specs.Lengths.{Ready, Total, Most, Finding}
 
-pub asked : (v u : View) (x y i j : ℕ) → Ready v u x y → i ≤ 4 → j ≤ 4 → Asked v u x y i j
-asked v u x y i j r li lj = record { left = r .left; right = r .right; cell = r .cell; partner = r .partner; first = li; second = lj }
+pub asked : (v u : View) (ea eb : List ℕ) (x y i j : ℕ) → Ready v u x y → Valued ea → Valued eb → i ≤ 4 → j ≤ 4 → Asked v u ea eb x y i j
+asked v u ea eb x y i j r va vb li lj = record { left = r .left; right = r .right; own = va; other = vb; cell = r .cell; partner = r .partner; first = li; second = lj }
 
 -- a number that is at most i is i or is below it
 under : (k i : ℕ) → k < i + 1 → k ≤ i

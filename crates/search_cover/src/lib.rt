@@ -120,7 +120,7 @@ pub fn by_cells(
     y: u8,
     c: u8,
 ) -> bool
-    requires { ⌜ Asked (viewOf (now sa) (now la) (now ta)) (viewOf (now sb) (now lb) (now tb)) x y c c ⌝ }
+    requires { ⌜ Asked (viewOf (now sa) (now la) (now ta)) (viewOf (now sb) (now lb) (now tb)) (now ea) (now eb) x y c c ⌝ }
     ensures { λ r. ⌜ ((r ≡ true) → NoneFails (viewOf (now (sa .entry)) (now (la .entry)) (now (ta .entry))) (viewOf (now (sb .entry)) (now (lb .entry)) (now (tb .entry))) (now (z .entry)) (now (ea .entry)) (now (eb .entry)) x y c) ⌝ }
 {
     let mut lefts = [0u64; 64];

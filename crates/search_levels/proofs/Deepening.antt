@@ -21,10 +21,10 @@ use Rattle.search_levels.specs.declared.Levels.{Levels}
 use Rattle.search_levels.specs.Depths.{Gathered, endAt, Laid, Tip, Cover, Level, Standing, Became, FirstOf}
 use Rattle.search_levels.proofs.Gathering.{seen-inside}
 
-module _ (v u : View) (z eb : List ℕ) (x y : ℕ) where
+module _ (v u : View) (z ea eb : List ℕ) (x y : ℕ) where
   -- a level in classes that are as they were
   level-still : (loose : Bool) (k base : ℕ) (ls rs ls′ rs′ : List ℕ) (n : ℕ) → n ≤ base → Untouched base ls rs ls′ rs′
-      → Level v u z eb x y loose k ls rs n → Level v u z eb x y loose k ls′ rs′ n
+      → Level v u z ea eb x y loose k ls rs n → Level v u z ea eb x y loose k ls′ rs′ n
   level-still loose k base ls rs ls′ rs′ n l t h = record {
     sound = λ a o g. h .sound a o (untouched-has base ls′ rs′ ls rs (untouched-turn base ls rs ls′ rs′ t) n l a o g);
     whole = λ p tr len.
@@ -33,26 +33,27 @@ module _ (v u : View) (z eb : List ℕ) (x y : ℕ) where
   }
 
   -- what is covered as it is, a table of which the tips may be widened covers too
-  level-loose : (k : ℕ) (ls rs : List ℕ) (n : ℕ) → Level v u z eb x y false k ls rs n → Level v u z eb x y true k ls rs n
+  level-loose : (k : ℕ) (ls rs : List ℕ) (n : ℕ) → Level v u z ea eb x y false k ls rs n → Level v u z ea eb x y true k ls rs n
   level-loose k ls rs n h = record {
-    sound = λ a o g. let t = h .sound a o g in record { path = t .path; trail = t .trail; long = t .long; end = t .end; wide = t .wide; only = λ _. refl; seen = t .seen };
+    sound = λ a o g. let t = h .sound a o g in record { path = t .path; trail = t .trail; long = t .long; wide = t .wide; only = λ _. refl; end = t .end; seen = t .seen };
     whole = λ p tr len. let c = h .whole p tr len in record { wide = c .wide; only = λ _. refl; covered = c .covered };
   }
 
   -- ---- the tips of the paths of `more` links from the last level with its tips as they are, put above the levels up to level k
-  module _ (wide : Bool) (ls rs : List ℕ) (k e first m base : ℕ) (here : Level v u z eb x y false e ls rs m) (known : Level v u z eb x y wide k ls rs base)
-      (lower : (f : ℕ) → f < first → (d : ℕ) × (d < e) × Level v u z eb x y false d ls rs first) (order : e ≤ k)
-      (ls′ rs′ : List ℕ) (g : Grown) (q : Gathered v u z eb wide ls rs first m (k + 1 - e) ls rs base base ls′ rs′ g) (t : g .full ≡ false) where
+  module _ (wide : Bool) (ls rs : List ℕ) (k e first m base : ℕ) (here : Level v u z ea eb x y false e ls rs m) (known : Level v u z ea eb x y wide k ls rs base)
+      (lower : (f : ℕ) → f < first → (d : ℕ) × (d < e) × Level v u z ea eb x y false d ls rs first) (order : e ≤ k)
+      (ls′ rs′ : List ℕ) (g : Grown) (q : Gathered v u z ea eb wide ls rs first m (k + 1 - e) ls rs base base ls′ rs′ g) (t : g .full ≡ false) where
     -- a tip of a path of at most d links, one after the other
-    beyond : (d a o : ℕ) → Tip v u z eb x y false d a o → (s : List ℕ) → Trail v a s
+    beyond : (d a o : ℕ) → Tip v u z ea eb x y false d a o → (s : List ℕ) → Trail v a s
         → (p : List ℕ) × Trail v x p × (length p ≤ d + length s) × (endOf v x p ≡ endOf v a s) × (endsOver v u z (2 ^ y) p ≡ endsOver v u z o s)
     unfolding seenAs
     beyond d a o c s tr =
-        let exactly : endsOver v u z (2 ^ y) (c .path) ≡ o = plain (c .wide) (c .only) (c .seen) in (
+        let exactly : endsOver v u z (2 ^ y) (c .path) ≡ o = plain (c .wide) (c .only) (c .seen) in
+        let there : endOf v x (c .path) ≡ a = ⊎-elim (λ e. e) (λ (e, _). never (c .only e)) (c .end) in (
           c .path ++ s,
-          trail-join v u z x (c .path) s (c .trail) (rw (c .end) tr),
+          trail-join v u z x (c .path) s (c .trail) (rw there tr),
           omega (arith, length-append (c .path) s, c .long),
-          end-join v u z x (c .path) s ∙ rw (c .end),
+          end-join v u z x (c .path) s ∙ rw there,
           over-join v u z (2 ^ y) (c .path) s ∙ rw exactly,
         )
       where
@@ -60,13 +61,13 @@ module _ (v u : View) (z eb : List ℕ) (x y : ℕ) where
         plain true f e = never (f refl)
         plain false f e = e
 
-    next-sound : (a o : ℕ) → Has ls′ rs′ (g .count) a o → Tip v u z eb x y wide (k + 1) a o
+    next-sound : (a o : ℕ) → Has ls′ rs′ (g .count) a o → Tip v u z ea eb x y wide (k + 1) a o
     next-sound a o h =
         ⊎-elim
-        (λ i. let c = known .sound a o i in record { path = c .path; trail = c .trail; long = omega (arith, c .long); end = c .end; wide = c .wide; only = c .only; seen = c .seen })
+        (λ i. let c = known .sound a o i in record { path = c .path; trail = c .trail; long = omega (arith, c .long); wide = c .wide; only = c .only; end = c .end; seen = c .seen })
         (λ c.
         let (p, tr, len, en, ov) = beyond e (c .cell) (c .word) (here .sound (c .cell) (c .word) (c .has)) (c .path) (c .trail) in
-        record { path = p; trail = tr; long = omega (arith, c .long); end = en ∙ c .end; wide = wide; only = λ i. i; seen = ap (seenAs eb wide) ov ∙ c .seen })
+        record { path = p; trail = tr; long = omega (arith, c .long); wide = wide; only = λ i. i; end = rw en (c .end); seen = ap (seenAs eb wide) ov ∙ c .seen })
         (q .sound a o h)
 
     -- what was covered still is
@@ -113,7 +114,7 @@ module _ (v u : View) (z eb : List ℕ) (x y : ℕ) where
             plain true f e = never (f refl)
             plain false f e = e
 
-    level-next : Level v u z eb x y wide (k + 1) ls′ rs′ (g .count)
+    level-next : Level v u z ea eb x y wide (k + 1) ls′ rs′ (g .count)
     level-next = record { sound = next-sound; whole = next-whole }
 
 -- ---- the levels as a whole
@@ -123,27 +124,27 @@ fewer-left n a b l f m = ⊎-elim (λ e. absurd (f (sym e))) (λ s. omega arith)
 pub end-few : (ls rs : List ℕ) (t : Levels) → Laid ls rs t → (k : ℕ) → k ≤ t .known → (n : ℕ) → n ≡ endAt t k → n ≤ 64
 end-few ls rs t l k m n d = omega (arith, l .rising k m, l .room .few)
 
-module _ (v u : View) (z eb : List ℕ) (ls rs : List ℕ) (t : Levels) where
-  pub became-same : Laid ls rs t → Became v u z eb ls rs t ls rs t
-  became-same l = record { laid = l; onward = omega arith; told = refl; still = λ ea x y c s. s }
+module _ (v u : View) (z ea eb : List ℕ) (ls rs : List ℕ) (t : Levels) where
+  pub became-same : Laid ls rs t → Became v u z ea eb ls rs t ls rs t
+  became-same l = record { laid = l; onward = omega arith; told = refl; still = λ x y c s. s }
 
-  pub became-trans : (ls′ rs′ : List ℕ) (t′ : Levels) → Became v u z eb ls rs t ls′ rs′ t′ → (ls″ rs″ : List ℕ) (t″ : Levels) → Became v u z eb ls′ rs′ t′ ls″ rs″ t″
-      → Became v u z eb ls rs t ls″ rs″ t″
+  pub became-trans : (ls′ rs′ : List ℕ) (t′ : Levels) → Became v u z ea eb ls rs t ls′ rs′ t′ → (ls″ rs″ : List ℕ) (t″ : Levels) → Became v u z ea eb ls′ rs′ t′ ls″ rs″ t″
+      → Became v u z ea eb ls rs t ls″ rs″ t″
   became-trans ls′ rs′ t′ b ls″ rs″ t″ b′ = record {
     laid = b′ .laid;
     onward = omega (arith, b .onward, b′ .onward);
     told = b′ .told ∙ b .told;
-    still = λ ea x y c s. b′ .still ea x y c (b .still ea x y c s);
+    still = λ x y c s. b′ .still x y c (b .still x y c s);
   }
 
   module _ (l : Laid ls rs t) (wide : Bool) (first : ℕ) (f : FirstOf t first) (ls′ rs′ : List ℕ) (g : Grown)
-      (q : Gathered v u z eb wide ls rs first (endAt t (t .exact)) (t .known + 1 - t .exact) ls rs (endAt t (t .known)) (endAt t (t .known)) ls′ rs′ g) where
+      (q : Gathered v u z ea eb wide ls rs first (endAt t (t .exact)) (t .known + 1 - t .exact) ls rs (endAt t (t .known)) (endAt t (t .known)) ls′ rs′ g) where
     -- the levels that there were
-    stays : (x y : ℕ) (loose : Bool) (k : ℕ) → k ≤ t .known → Level v u z eb x y loose k ls rs (endAt t k) → Level v u z eb x y loose k ls′ rs′ (endAt t k)
-    stays x y loose k m h = level-still v u z eb x y loose k (endAt t (t .known)) ls rs ls′ rs′ (endAt t k) (l .rising k m) (q .low) h
+    stays : (x y : ℕ) (loose : Bool) (k : ℕ) → k ≤ t .known → Level v u z ea eb x y loose k ls rs (endAt t k) → Level v u z ea eb x y loose k ls′ rs′ (endAt t k)
+    stays x y loose k m h = level-still v u z ea eb x y loose k (endAt t (t .known)) ls rs ls′ rs′ (endAt t k) (l .rising k m) (q .low) h
 
     -- there was no room for one more
-    pub became-full : Became v u z eb ls rs t ls′ rs′ t
+    pub became-full : Became v u z ea eb ls rs t ls′ rs′ t
     became-full = record {
       laid = record {
         long = l .long;
@@ -154,7 +155,7 @@ module _ (v u : View) (z eb : List ℕ) (ls rs : List ℕ) (t : Levels) where
       };
       onward = omega arith;
       told = refl;
-      still = λ ea x y c s. record {
+      still = λ x y c s. record {
         exact = λ k m. stays x y false k (omega (arith, l .order)) (s .exact k m);
         each = λ k m. stays x y true k m (s .each k m);
         none = s .none;
@@ -191,21 +192,21 @@ module _ (v u : View) (z eb : List ℕ) (ls rs : List ℕ) (t : Levels) where
         room = rw at-known (q .room);
       }
 
-      module _ (ea : List ℕ) (x y c : ℕ) (s : Standing v u z ea eb x y c ls rs t) where
-        top : Level v u z eb x y wide (t .known + 1) ls′ rs′ (g .count)
-        top = level-next v u z eb x y wide ls rs (t .known) (t .exact) first (endAt t (t .exact)) (endAt t (t .known)) (s .exact (t .exact) (omega arith)) (known wide plain) lower (l .order) ls′ rs′ g q room
+      module _ (x y c : ℕ) (s : Standing v u z ea eb x y c ls rs t) where
+        top : Level v u z ea eb x y wide (t .known + 1) ls′ rs′ (g .count)
+        top = level-next v u z ea eb x y wide ls rs (t .known) (t .exact) first (endAt t (t .exact)) (endAt t (t .known)) (s .exact (t .exact) (omega arith)) (known wide plain) lower (l .order) ls′ rs′ g q room
           where
-            known : (b : Bool) → (b ≡ false → t .exact ≡ t .known) → Level v u z eb x y b (t .known) ls rs (endAt t (t .known))
+            known : (b : Bool) → (b ≡ false → t .exact ≡ t .known) → Level v u z ea eb x y b (t .known) ls rs (endAt t (t .known))
             known true h = s .each (t .known) (omega arith)
             known false h = s .exact (t .known) (omega (arith, h refl))
 
-            lower : (i : ℕ) → i < first → (d : ℕ) × (d < t .exact) × Level v u z eb x y false d ls rs first
+            lower : (i : ℕ) → i < first → (d : ℕ) × (d < t .exact) × Level v u z ea eb x y false d ls rs first
             lower i m = ⊎-elim
                 (λ e. absurd (omega (arith, f .none e)))
                 (λ n. (t .exact - 1, omega (arith, pos-of-ne-zero n), rw (f .some n) (s .exact (t .exact - 1) (omega arith))))
                 (equal-or (t .exact) 0)
 
-        at-top : (b : Bool) (k : ℕ) → k ≡ t .known + 1 → Level v u z eb x y b (t .known + 1) ls′ rs′ (g .count) → Level v u z eb x y b k ls′ rs′ (endAt t′ k)
+        at-top : (b : Bool) (k : ℕ) → k ≡ t .known + 1 → Level v u z ea eb x y b (t .known + 1) ls′ rs′ (g .count) → Level v u z ea eb x y b k ls′ rs′ (endAt t′ k)
         at-top b k e h = let n : endAt t′ k ≡ g .count = ap (endAt t′) e ∙ end-new in rw (n, e) h
 
         next-standing : Standing v u z ea eb x y c ls′ rs′ t′
@@ -215,17 +216,17 @@ module _ (v u : View) (z eb : List ℕ) (ls rs : List ℕ) (t : Levels) where
           none = λ e. s .none (sym dn ∙ e);
         }
           where
-            loosely : (b : Bool) → Level v u z eb x y b (t .known + 1) ls′ rs′ (g .count) → Level v u z eb x y true (t .known + 1) ls′ rs′ (g .count)
+            loosely : (b : Bool) → Level v u z ea eb x y b (t .known + 1) ls′ rs′ (g .count) → Level v u z ea eb x y true (t .known + 1) ls′ rs′ (g .count)
             loosely true h = h
-            loosely false h = level-loose v u z eb x y (t .known + 1) ls′ rs′ (g .count) h
+            loosely false h = level-loose v u z ea eb x y (t .known + 1) ls′ rs′ (g .count) h
 
-            kept : (k : ℕ) → k ≤ t .exact → Level v u z eb x y false k ls′ rs′ (endAt t′ k)
+            kept : (k : ℕ) → k ≤ t .exact → Level v u z ea eb x y false k ls′ rs′ (endAt t′ k)
             kept k m = rw (end-old k (omega (arith, l .order))) (stays x y false k (omega (arith, l .order)) (s .exact k m))
 
-            exactly : {k : ℕ} (b : Bool) → k ≤ cond b (t .exact) (t .known + 1) → Level v u z eb x y b (t .known + 1) ls′ rs′ (g .count) → (b ≡ false → t .exact ≡ t .known)
-                → Level v u z eb x y false k ls′ rs′ (endAt t′ k)
+            exactly : {k : ℕ} (b : Bool) → k ≤ cond b (t .exact) (t .known + 1) → Level v u z ea eb x y b (t .known + 1) ls′ rs′ (g .count) → (b ≡ false → t .exact ≡ t .known)
+                → Level v u z ea eb x y false k ls′ rs′ (endAt t′ k)
             exactly {k} true m h p = kept k m
             exactly {k} false m h p = ⊎-elim (λ e. at-top false k e h) (λ b. kept k (omega (arith, p refl))) (eq-or-lt-of-le m)
 
-      pub became-next : Became v u z eb ls rs t ls′ rs′ t′
-      became-next = record { laid = next-laid; onward = omega arith; told = dn; still = λ ea x y c s. next-standing ea x y c s }
+      pub became-next : Became v u z ea eb ls rs t ls′ rs′ t′
+      became-next = record { laid = next-laid; onward = omega arith; told = dn; still = λ x y c s. next-standing x y c s }

@@ -39,23 +39,23 @@ unfolding seenAs
 seen-inside eb true w w′ i = spread-inside (rowAt eb 0) w w′ i
 seen-inside eb false w w′ i = i
 
-module _ (v u : View) (z eb : List ℕ) (wide : Bool) (l r : List ℕ) (first m : ℕ) (ls rs : List ℕ) (base n : ℕ) where
+module _ (v u : View) (z ea eb : List ℕ) (wide : Bool) (l r : List ℕ) (first m : ℕ) (ls rs : List ℕ) (base n : ℕ) where
   -- ---- one link
-  pub gathered-last : (more : ℕ) → more ≡ 1 → (ls′ rs′ : List ℕ) (p : Part) → Filled v u z eb wide l r first m 0 ls rs base n ls′ rs′ p
-      → (g : Grown) → g .count ≡ p .count → g .full ≡ not (eqb (p .next) lastPlace) → Gathered v u z eb wide l r first m more ls rs base n ls′ rs′ g
+  pub gathered-last : (more : ℕ) → more ≡ 1 → (ls′ rs′ : List ℕ) (p : Part) → Filled v u z ea eb wide l r first m 0 ls rs base n ls′ rs′ p
+      → (g : Grown) → g .count ≡ p .count → g .full ≡ not (eqb (p .next) lastPlace) → Gathered v u z ea eb wide l r first m more ls rs base n ls′ rs′ g
   unfolding Trail endOf endsOver
   gathered-last more dm ls′ rs′ p f g dc df = rw (dm, dc) (record {
     room = f .room;
     low = f .low;
     least = f .least;
-    sound = λ a o h. ⊎-elim inl (λ (w, b, e). inr (record {
+    sound = λ a o h. ⊎-elim inl (λ (y, w, b, s, e). inr (record {
       cell = b .cell;
       word = b .word;
       path = b .link ∷ [];
       has = b .has;
       trail = (b .leads .leaves, tt);
       long = refl;
-      end = b .leads .to;
+      end = rw (b .leads .to) s;
       seen = rw (b .leads .to, b .leads .word) e;
     })) (f .sound a o h);
     kept = f .kept;
@@ -76,7 +76,7 @@ module _ (v u : View) (z eb : List ℕ) (wide : Bool) (l r : List ℕ) (first m 
     pub room : TableRoom ls′ rs′ n′
     pub low : Untouched base ls rs ls′ rs′
     pub least : base ≤ n′
-    pub sound : (a o : ℕ) → Has ls′ rs′ n′ a o → Has ls rs n a o ⊎ Came v u z eb wide l r m more a o
+    pub sound : (a o : ℕ) → Has ls′ rs′ n′ a o → Has ls rs n a o ⊎ Came v u z ea eb wide l r m more a o
     pub kept : (a o : ℕ) → Has ls rs n a o → Covered ls′ rs′ n′ a o
     pub below : (e x k : ℕ) (s : List ℕ) → Moves v l first m e x k → Passed (slot e (labelOf v k)) at → Trail v (toOf v k) s → length s ≡ more - 1
         → Covered ls′ rs′ n′ (endOf v (toOf v k) s) (seenAs eb wide (endsOver v u z (stepWord u z (getD r e 0) (labelOf v k) (toOf v k)) s))
@@ -92,21 +92,21 @@ module _ (v u : View) (z eb : List ℕ) (wide : Bool) (l r : List ℕ) (first m 
   }
 
   module _ (more at : ℕ) (pos : more ≡ 0 → ⊥) (ls′ rs′ : List ℕ) (n′ : ℕ) (h : Gathering more at ls′ rs′ n′) where
-    module _ (pl₀ pr₀ pl pr : List ℕ) (p : Part) (f : Filled v u z eb false l r first m at pl₀ pr₀ 0 0 pl pr p) (ls″ rs″ : List ℕ) (g : Grown)
-        (q : Gathered v u z eb wide pl pr 0 (p .count) (more - 1) ls′ rs′ base n′ ls″ rs″ g) where
+    module _ (pl₀ pr₀ pl pr : List ℕ) (p : Part) (f : Filled v u z ea eb false l r first m at pl₀ pr₀ 0 0 pl pr p) (ls″ rs″ : List ℕ) (g : Grown)
+        (q : Gathered v u z ea eb wide pl pr 0 (p .count) (more - 1) ls′ rs′ base n′ ls″ rs″ g) where
       further : {a o : ℕ} → Covered ls′ rs′ n′ a o → Covered ls″ rs″ (g .count) a o
       further = covered-trans ls′ rs′ n′ ls″ rs″ (g .count) (q .kept) _ _
 
       on-low : Untouched base ls rs ls″ rs″
       on-low = untouched-trans base ls rs ls′ rs′ (h .low) ls″ rs″ (q .low)
 
-      on-sound : (a o : ℕ) → Has ls″ rs″ (g .count) a o → Has ls rs n a o ⊎ Came v u z eb wide l r m more a o
+      on-sound : (a o : ℕ) → Has ls″ rs″ (g .count) a o → Has ls rs n a o ⊎ Came v u z ea eb wide l r m more a o
       unfolding Trail endOf endsOver
       on-sound a o k = ⊎-elim (h .sound a o) (λ c. inr (longer c)) (q .sound a o k)
         where
-          longer : Came v u z eb wide pl pr (p .count) (more - 1) a o → Came v u z eb wide l r m more a o
+          longer : Came v u z ea eb wide pl pr (p .count) (more - 1) a o → Came v u z ea eb wide l r m more a o
           longer c =
-              let b = part-sound v u z eb l r first m at pl₀ pr₀ pl pr p f (c .cell) (c .word) (c .has) in
+              let b = part-sound v u z ea eb l r first m at pl₀ pr₀ pl pr p f (c .cell) (c .word) (c .has) in
               record {
                 cell = b .cell;
                 word = b .word;
@@ -127,13 +127,13 @@ module _ (v u : View) (z eb : List ℕ) (wide : Bool) (l r : List ℕ) (first m 
         kept = λ a o k. further (h .kept a o k);
         below = λ e x k s w b tr len. ⊎-elim
             (λ c.
-            let a = part-whole v u z eb l r first m at pl₀ pr₀ pl pr p f e x k w c b in
+            let a = part-whole v u z ea eb l r first m at pl₀ pr₀ pl pr p f e x k w c b in
             covered-wider _ _ _ _ _ _ (q .whole t _ _ s (record { has = a .has; least = omega arith }) tr len) (seen-inside eb wide _ _ (over-inside v u z s _ _ (a .inside))))
             (λ c. further (h .below e x k s w (inl c) tr len))
             (le-or-lt at (slot e (labelOf v k)));
       }
 
-      pub gathering-full : g .full ≡ true → Gathered v u z eb wide l r first m more ls rs base n ls″ rs″ g
+      pub gathering-full : g .full ≡ true → Gathered v u z ea eb wide l r first m more ls rs base n ls″ rs″ g
       gathering-full t = record {
         room = q .room;
         low = on-low;
@@ -143,7 +143,7 @@ module _ (v u : View) (z eb : List ℕ) (wide : Bool) (l r : List ℕ) (first m 
         whole = λ e. never (sym e ∙ t);
       }
 
-    pub gathering-end : lastPlace ≤ at → at ≤ lastPlace → (g : Grown) → g .count ≡ n′ → Gathered v u z eb wide l r first m more ls rs base n ls′ rs′ g
+    pub gathering-end : lastPlace ≤ at → at ≤ lastPlace → (g : Grown) → g .count ≡ n′ → Gathered v u z ea eb wide l r first m more ls rs base n ls′ rs′ g
     unfolding Trail endOf endsOver
     gathering-end b few g dc = rw dc (record { room = h .room; low = h .low; least = h .least; sound = h .sound; kept = h .kept; whole = λ _. go })
       where

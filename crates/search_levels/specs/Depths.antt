@@ -6,7 +6,7 @@ use mathlib.Core.List.{List}
 use Prim.Native.Nat.{ℕ, _+_, _-_, _^_, _≤_, _<_}
 use lib.ListN.{length, getD, replicate}
 use Rattle.search_links.specs.Hops.{View}
-use Rattle.search_links.specs.Sets.{Valued, seenAs}
+use Rattle.search_links.specs.Sets.{Valued, StandsIn, seenAs}
 use Rattle.search_tables.specs.declared.Grown.{Grown}
 use Rattle.search_tables.specs.Tips.{Has, Covered, TableRoom, Untouched}
 use Rattle.search_steps.specs.Paths.{Trail, endOf, endsOver}
@@ -20,24 +20,24 @@ pub record HasFrom (l r : List ℕ) (first m a o : ℕ) : Type 0 where
   pub has : Has l r m a o
   pub least : first ≤ has .class
 
--- A path of d links from a tip of the table has the tip (a, o), as it is or widened.
-pub record Came (v u : View) (z eb : List ℕ) (wide : Bool) (l r : List ℕ) (m d a o : ℕ) : Type 0 where
+-- A path of d links from a tip of the table has the tip (a, o), as it is or widened, or one for which that stands in.
+pub record Came (v u : View) (z ea eb : List ℕ) (wide : Bool) (l r : List ℕ) (m d a o : ℕ) : Type 0 where
   pub cell : ℕ
   pub word : ℕ
   pub path : List ℕ
   pub has : Has l r m cell word
   pub trail : Trail v cell path
   pub long : length path ≡ d
-  pub end : endOf v cell path ≡ a
+  pub end : StandsIn ea wide (endOf v cell path) a
   pub seen : seenAs eb wide (endsOver v u z word path) ≡ o
 
--- The table has nothing but what it had and the tips of paths of d links from those of another, as they are or widened, these from class `base` on. It
+-- The table has nothing but what it had and such tips of paths of d links from those of another, as they are or widened, these from class `base` on. It
 -- covers what it had, and unless it was full, all tips of paths of d links from the other's classes from `first` on.
-pub record Gathered (v u : View) (z eb : List ℕ) (wide : Bool) (l r : List ℕ) (first m d : ℕ) (ls rs : List ℕ) (base n : ℕ) (ls′ rs′ : List ℕ) (g : Grown) : Type 0 where
+pub record Gathered (v u : View) (z ea eb : List ℕ) (wide : Bool) (l r : List ℕ) (first m d : ℕ) (ls rs : List ℕ) (base n : ℕ) (ls′ rs′ : List ℕ) (g : Grown) : Type 0 where
   pub room : TableRoom ls′ rs′ (g .count)
   pub low : Untouched base ls rs ls′ rs′
   pub least : base ≤ g .count
-  pub sound : (a o : ℕ) → Has ls′ rs′ (g .count) a o → Has ls rs n a o ⊎ Came v u z eb wide l r m d a o
+  pub sound : (a o : ℕ) → Has ls′ rs′ (g .count) a o → Has ls rs n a o ⊎ Came v u z ea eb wide l r m d a o
   pub kept : (a o : ℕ) → Has ls rs n a o → Covered ls′ rs′ (g .count) a o
   pub whole : g .full ≡ false → (a o : ℕ) (s : List ℕ) → HasFrom l r first m a o → Trail v a s → length s ≡ d
       → Covered ls′ rs′ (g .count) (endOf v a s) (seenAs eb wide (endsOver v u z o s))
@@ -55,14 +55,14 @@ pub record Laid (ls rs : List ℕ) (t : Levels) : Type 0 where
   pub rising : (k : ℕ) → k ≤ t .known → endAt t k ≤ endAt t (t .known)
   pub room : TableRoom ls rs (endAt t (t .known))
 
--- A path of at most k links from x has the tip (a, o), as it is or, if `loose`, widened.
-pub record Tip (v u : View) (z eb : List ℕ) (x y : ℕ) (loose : Bool) (k a o : ℕ) : Type 0 where
+-- A path of at most k links from x has the tip (a, o), as it is or, if `loose`, widened, or one for which that stands in.
+pub record Tip (v u : View) (z ea eb : List ℕ) (x y : ℕ) (loose : Bool) (k a o : ℕ) : Type 0 where
   pub path : List ℕ
   pub trail : Trail v x path
   pub long : length path ≤ k
-  pub end : endOf v x path ≡ a
   pub wide : Bool
   pub only : wide ≡ true → loose ≡ true
+  pub end : StandsIn ea wide (endOf v x path) a
   pub seen : seenAs eb wide (endsOver v u z (2 ^ y) path) ≡ o
 
 -- The table covers the tip (a, w), as it is or, if `loose`, widened.
@@ -72,22 +72,22 @@ pub record Cover (eb : List ℕ) (loose : Bool) (ls rs : List ℕ) (n a w : ℕ)
   pub covered : Covered ls rs n a (seenAs eb wide w)
 
 -- The first n classes have nothing but tips of paths of at most k links from x, and cover the tips of all of them.
-pub record Level (v u : View) (z eb : List ℕ) (x y : ℕ) (loose : Bool) (k : ℕ) (ls rs : List ℕ) (n : ℕ) : Type 0 where
-  pub sound : (a o : ℕ) → Has ls rs n a o → Tip v u z eb x y loose k a o
+pub record Level (v u : View) (z ea eb : List ℕ) (x y : ℕ) (loose : Bool) (k : ℕ) (ls rs : List ℕ) (n : ℕ) : Type 0 where
+  pub sound : (a o : ℕ) → Has ls rs n a o → Tip v u z ea eb x y loose k a o
   pub whole : (p : List ℕ) → Trail v x p → length p ≤ k → Cover eb loose ls rs n (endOf v x p) (endsOver v u z (2 ^ y) p)
 
 -- Each level is so; none of them fails, if it is said so.
 pub record Standing (v u : View) (z ea eb : List ℕ) (x y c : ℕ) (ls rs : List ℕ) (t : Levels) : Type 0 where
-  pub exact : (k : ℕ) → k ≤ t .exact → Level v u z eb x y false k ls rs (endAt t k)
-  pub each : (k : ℕ) → k ≤ t .known → Level v u z eb x y true k ls rs (endAt t k)
+  pub exact : (k : ℕ) → k ≤ t .exact → Level v u z ea eb x y false k ls rs (endAt t k)
+  pub each : (k : ℕ) → k ≤ t .known → Level v u z ea eb x y true k ls rs (endAt t k)
   pub none : t .none ≡ true → NoneFails v u z ea eb x y c
 
 -- A table with its levels has become another: of whatever nodes it stood, it still does.
-pub record Became (v u : View) (z eb : List ℕ) (ls rs : List ℕ) (t : Levels) (ls′ rs′ : List ℕ) (t′ : Levels) : Type 0 where
+pub record Became (v u : View) (z ea eb : List ℕ) (ls rs : List ℕ) (t : Levels) (ls′ rs′ : List ℕ) (t′ : Levels) : Type 0 where
   pub laid : Laid ls′ rs′ t′
   pub onward : t .known ≤ t′ .known
   pub told : t′ .none ≡ t .none
-  pub still : (ea : List ℕ) (x y c : ℕ) → Standing v u z ea eb x y c ls rs t → Standing v u z ea eb x y c ls′ rs′ t′
+  pub still : (x y c : ℕ) → Standing v u z ea eb x y c ls rs t → Standing v u z ea eb x y c ls′ rs′ t′
 
 -- No two paths of less than s links in all fail, of at most c links each, the first no longer than the second.
 pub record Settled (v u : View) (z ea eb : List ℕ) (x y c s : ℕ) : Type 0 where

@@ -2,6 +2,7 @@
 use mathlib.Core.Bool.{Bool, true, false}
 use mathlib.Core.Path.{_≡_, refl, sym, _∙_}
 use mathlib.Core.List.{List, [], _∷_}
+use mathlib.Core.Logic.{inl}
 use Prim.Native.Nat.{ℕ, _^_, _<_}
 use native.Mathlib.Omega.{arith}
 use lib.ListN.{length, set, length-set}
@@ -38,11 +39,11 @@ module _ (v u : View) (z ea eb ls rs : List ℕ) (x y c a b : ℕ) (da : a ≡ 2
     none = λ e. never e;
   })
     where
-      level : (loose : Bool) → Level v u z eb x y loose 0 (set ls 0 a) (set rs 0 b) 1
+      level : (loose : Bool) → Level v u z ea eb x y loose 0 (set ls 0 a) (set rs 0 b) 1
       level loose = record {
         sound = λ e o h.
             let (dx, dw) = one-only ls rs x (2 ^ y) a b da db ll lr e o h in
-            record { path = []; trail = tt; long = omega arith; end = sym dx; wide = false; only = λ w. never w; seen = sym dw };
+            record { path = []; trail = tt; long = omega arith; wide = false; only = λ w. never w; end = inl (sym dx); seen = sym dw };
         whole = λ p tr len. let d : p ≡ [] = empty p (omega arith) in
             rw d (record { wide = false; only = λ w. never w; covered = covered-by-has _ _ _ _ _ (one-has ls rs x (2 ^ y) a b da db ll lr low) });
       }

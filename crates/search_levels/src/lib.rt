@@ -1,6 +1,6 @@
 // The tips of the paths of at most so many links from a cell of one book, with a cell of the other for its partner, level by level in one table. A level has
 // no tip that the levels below it cover: two paths that fail, of fewest links in all, have none. The last level, and those that are too large for the
-// table, have their sets widened to what comparisons see of them, since no path goes on from there.
+// table, have their tips widened to what comparisons see of them, since no path goes on from there.
 ghost use mathlib.Core.Bool.{true, false, cond};
 ghost use mathlib.Core.Path.{_≡_};
 ghost use Prim.Native.Nat.{_+_, _≤_, _<_};
@@ -19,6 +19,7 @@ fn gather(
     sa: &[u16; 65],
     la: &[u16; 512],
     ta: &[u8; 512],
+    ea: &[u64; 128],
     sb: &[u16; 65],
     lb: &[u16; 512],
     tb: &[u8; 512],
@@ -36,13 +37,14 @@ fn gather(
     n: usize,
 ) -> Grown
     requires { ⌜ Ordered (viewOf (now sa) (now la) (now ta)) × Ordered (viewOf (now sb) (now lb) (now tb)) × (m ≤ 64) × (more ≡ 0 → ⊥) × TableRoom (now lefts) (now rights) n × (base ≤ n) ⌝ }
-    ensures { λ g. ⌜ Gathered (viewOf (now (sa .entry)) (now (la .entry)) (now (ta .entry))) (viewOf (now (sb .entry)) (now (lb .entry)) (now (tb .entry))) (now (z .entry)) (now (eb .entry)) wide (now (l .entry)) (now (r .entry)) first m more (now (lefts .entry)) (now (rights .entry)) base n (now (lefts .exit)) (now (rights .exit)) g ⌝ }
+    ensures { λ g. ⌜ Gathered (viewOf (now (sa .entry)) (now (la .entry)) (now (ta .entry))) (viewOf (now (sb .entry)) (now (lb .entry)) (now (tb .entry))) (now (z .entry)) (now (ea .entry)) (now (eb .entry)) wide (now (l .entry)) (now (r .entry)) first m more (now (lefts .entry)) (now (rights .entry)) base n (now (lefts .exit)) (now (rights .exit)) g ⌝ }
 {
     if more == 1 {
         let last = search_steps::fill(
             sa,
             la,
             ta,
+            ea,
             sb,
             lb,
             tb,
@@ -73,6 +75,7 @@ fn gather(
             sa,
             la,
             ta,
+            ea,
             sb,
             lb,
             tb,
@@ -93,6 +96,7 @@ fn gather(
             sa,
             la,
             ta,
+            ea,
             sb,
             lb,
             tb,
@@ -156,6 +160,7 @@ fn deepen(
     sa: &[u16; 65],
     la: &[u16; 512],
     ta: &[u8; 512],
+    ea: &[u64; 128],
     sb: &[u16; 65],
     lb: &[u16; 512],
     tb: &[u8; 512],
@@ -167,7 +172,7 @@ fn deepen(
     wide: bool,
 ) -> Levels
     requires { ⌜ Ordered (viewOf (now sa) (now la) (now ta)) × Ordered (viewOf (now sb) (now lb) (now tb)) × Laid (now lefts) (now rights) t × (t .known < 4) × (wide ≡ false → t .exact ≡ t .known) ⌝ }
-    ensures { λ r. ⌜ Became (viewOf (now (sa .entry)) (now (la .entry)) (now (ta .entry))) (viewOf (now (sb .entry)) (now (lb .entry)) (now (tb .entry))) (now (z .entry)) (now (eb .entry)) (now (lefts .entry)) (now (rights .entry)) t (now (lefts .exit)) (now (rights .exit)) r × (r .known ≤ t .known + 1) ⌝ }
+    ensures { λ r. ⌜ Became (viewOf (now (sa .entry)) (now (la .entry)) (now (ta .entry))) (viewOf (now (sb .entry)) (now (lb .entry)) (now (tb .entry))) (now (z .entry)) (now (ea .entry)) (now (eb .entry)) (now (lefts .entry)) (now (rights .entry)) t (now (lefts .exit)) (now (rights .exit)) r × (r .known ≤ t .known + 1) ⌝ }
 {
     let l = *lefts;
     let r = *rights;
@@ -181,6 +186,7 @@ fn deepen(
         sa,
         la,
         ta,
+        ea,
         sb,
         lb,
         tb,
@@ -228,6 +234,7 @@ fn reach(
     sa: &[u16; 65],
     la: &[u16; 512],
     ta: &[u8; 512],
+    ea: &[u64; 128],
     sb: &[u16; 65],
     lb: &[u16; 512],
     tb: &[u8; 512],
@@ -241,13 +248,13 @@ fn reach(
     small: bool,
 ) -> Levels
     requires { ⌜ Ordered (viewOf (now sa) (now la) (now ta)) × Ordered (viewOf (now sb) (now lb) (now tb)) × Laid (now lefts) (now rights) t × (n ≤ 4) ⌝ }
-    ensures { λ r. ⌜ Became (viewOf (now (sa .entry)) (now (la .entry)) (now (ta .entry))) (viewOf (now (sb .entry)) (now (lb .entry)) (now (tb .entry))) (now (z .entry)) (now (eb .entry)) (now (lefts .entry)) (now (rights .entry)) t (now (lefts .exit)) (now (rights .exit)) r ⌝ }
+    ensures { λ r. ⌜ Became (viewOf (now (sa .entry)) (now (la .entry)) (now (ta .entry))) (viewOf (now (sb .entry)) (now (lb .entry)) (now (tb .entry))) (now (z .entry)) (now (ea .entry)) (now (eb .entry)) (now (lefts .entry)) (now (rights .entry)) t (now (lefts .exit)) (now (rights .exit)) r ⌝ }
 {
     let mut at = t;
     while at.known < n {
         let known = at.known;
         let wide = widens(at, c, small);
-        let next = deepen(sa, la, ta, sb, lb, tb, eb, z, lefts, rights, at, wide);
+        let next = deepen(sa, la, ta, ea, sb, lb, tb, eb, z, lefts, rights, at, wide);
         if next.known == known {
             return next;
         }
@@ -265,7 +272,7 @@ fn judged(
     t: Levels,
     c: u8,
 ) -> Levels
-    requires { ⌜ Laid (now lefts) (now rights) t ⌝ }
+    requires { ⌜ Laid (now lefts) (now rights) t × Valued (now ea) × Valued (now eb) ⌝ }
     ensures { λ r. ⌜ Judged (now (ea .entry)) (now (eb .entry)) c (now (lefts .entry)) (now (rights .entry)) t r ⌝ }
 {
     if t.known < c {
@@ -313,10 +320,26 @@ fn all_levels(
     y: u8,
     c: u8,
 ) -> Levels
-    requires { ⌜ Asked (viewOf (now sa) (now la) (now ta)) (viewOf (now sb) (now lb) (now tb)) x y c c × Valued (now eb) × Laid (now lefts) (now rights) t × Standing (viewOf (now sa) (now la) (now ta)) (viewOf (now sb) (now lb) (now tb)) (now z) (now ea) (now eb) x y c (now lefts) (now rights) t ⌝ }
+    requires { ⌜ Asked (viewOf (now sa) (now la) (now ta)) (viewOf (now sb) (now lb) (now tb)) (now ea) (now eb) x y c c × Laid (now lefts) (now rights) t × Standing (viewOf (now sa) (now la) (now ta)) (viewOf (now sb) (now lb) (now tb)) (now z) (now ea) (now eb) x y c (now lefts) (now rights) t ⌝ }
     ensures { λ r. ⌜ Laid (now (lefts .exit)) (now (rights .exit)) r × Standing (viewOf (now (sa .entry)) (now (la .entry)) (now (ta .entry))) (viewOf (now (sb .entry)) (now (lb .entry)) (now (tb .entry))) (now (z .entry)) (now (ea .entry)) (now (eb .entry)) x y c (now (lefts .exit)) (now (rights .exit)) r ⌝ }
 {
-    let whole = reach(sa, la, ta, sb, lb, tb, eb, z, lefts, rights, t, c, c, false);
+    let whole = reach(
+        sa,
+        la,
+        ta,
+        ea,
+        sb,
+        lb,
+        tb,
+        eb,
+        z,
+        lefts,
+        rights,
+        t,
+        c,
+        c,
+        false,
+    );
     if whole.known < c {
         if search_cover::by_cells(sa, la, ta, ea, sb, lb, tb, eb, z, x, y, c) {
             return quiet(whole);
@@ -325,6 +348,7 @@ fn all_levels(
             sa,
             la,
             ta,
+            ea,
             sb,
             lb,
             tb,
@@ -361,7 +385,7 @@ pub fn ready(
     c: u8,
     s: u8,
 ) -> Levels
-    requires { ⌜ Asked (viewOf (now sa) (now la) (now ta)) (viewOf (now sb) (now lb) (now tb)) x y c c × Valued (now eb) × Laid (now lefts) (now rights) t × Standing (viewOf (now sa) (now la) (now ta)) (viewOf (now sb) (now lb) (now tb)) (now z) (now ea) (now eb) x y c (now lefts) (now rights) t ⌝ }
+    requires { ⌜ Asked (viewOf (now sa) (now la) (now ta)) (viewOf (now sb) (now lb) (now tb)) (now ea) (now eb) x y c c × Laid (now lefts) (now rights) t × Standing (viewOf (now sa) (now la) (now ta)) (viewOf (now sb) (now lb) (now tb)) (now z) (now ea) (now eb) x y c (now lefts) (now rights) t ⌝ }
     ensures { λ r. ⌜ Laid (now (lefts .exit)) (now (rights .exit)) r × Standing (viewOf (now (sa .entry)) (now (la .entry)) (now (ta .entry))) (viewOf (now (sb .entry)) (now (lb .entry)) (now (tb .entry))) (now (z .entry)) (now (ea .entry)) (now (eb .entry)) x y c (now (lefts .exit)) (now (rights .exit)) r ⌝ }
 {
     if 3 < s {
@@ -374,7 +398,23 @@ pub fn ready(
     if s < c {
         n = s;
     }
-    reach(sa, la, ta, sb, lb, tb, eb, z, lefts, rights, t, n, c, false)
+    reach(
+        sa,
+        la,
+        ta,
+        ea,
+        sb,
+        lb,
+        tb,
+        eb,
+        z,
+        lefts,
+        rights,
+        t,
+        n,
+        c,
+        false,
+    )
 }
 
 // The levels of the table with the one tip (x, {y}): level 0.
@@ -409,7 +449,7 @@ pub fn pair_at(
     i: u8,
     j: u8,
 ) -> Pair
-    requires { ⌜ Asked (viewOf (now sa) (now la) (now ta)) (viewOf (now sb) (now lb) (now tb)) x y i j × (i ≤ j) × (j ≤ c) × Valued (now ea) × Valued (now eb) × Laid (now lefts) (now rights) t × Standing (viewOf (now sa) (now la) (now ta)) (viewOf (now sb) (now lb) (now tb)) (now z) (now ea) (now eb) x y c (now lefts) (now rights) t × Settled (viewOf (now sa) (now la) (now ta)) (viewOf (now sb) (now lb) (now tb)) (now z) (now ea) (now eb) x y c (i + j) ⌝ }
+    requires { ⌜ Asked (viewOf (now sa) (now la) (now ta)) (viewOf (now sb) (now lb) (now tb)) (now ea) (now eb) x y i j × (i ≤ j) × (j ≤ c) × Laid (now lefts) (now rights) t × Standing (viewOf (now sa) (now la) (now ta)) (viewOf (now sb) (now lb) (now tb)) (now z) (now ea) (now eb) x y c (now lefts) (now rights) t × Settled (viewOf (now sa) (now la) (now ta)) (viewOf (now sb) (now lb) (now tb)) (now z) (now ea) (now eb) x y c (i + j) ⌝ }
     ensures { λ r. ⌜ Sought (viewOf (now (sa .entry)) (now (la .entry)) (now (ta .entry))) (viewOf (now (sb .entry)) (now (lb .entry)) (now (tb .entry))) (now (z .entry)) (now (ea .entry)) (now (eb .entry)) x y i j r ⌝ }
 {
     if t.known < j {

@@ -1,7 +1,7 @@
 -- What each turn and each way out of the functions shows of the definitions of `specs/`. The numbers that the code computed are variables
 -- here, with what is known of them, so that `search` finds them in a need's record.
-use mathlib.Core.Bool.{Bool, true, false, So, _&&_, _||_, or-false, or-assoc}
-use mathlib.Core.Path.{_≡_, refl, sym, ap, _∙_}
+use mathlib.Core.Bool.{Bool, true, false, So, not, _&&_, _||_, or-false, or-assoc}
+use mathlib.Core.Path.{_≡_, refl, sym, ap, ap₂, _∙_}
 use mathlib.Core.Logic.{inl, inr, ⊎-elim}
 use mathlib.Core.List.{List}
 use Prim.Native.Nat.{ℕ, zero, suc, _+_, _-_, _*_, _^_, _≤_, _<_}
@@ -15,10 +15,10 @@ use lib.ListN.{length, getD, set, length-set}
 use lib.Seq.{getD-set-same, getD-set-other}
 use Rattle.theory.specs.Search.{any}
 use Rattle.theory.specs.TestLaws.{never, le-or-lt, and-iff, or-iff, facts, test-eq}
-use Rattle.words.specs.Words.{bit, wordOf}
+use Rattle.words.specs.Words.{bit, wordOf, IsLowest, IsWithout, IsMinus}
 use Rattle.words.specs.Laws.{bit-or, bit-zero, bit-pow, bit-without, wordOf-is, first-stop, first-end, first-next}
 use Rattle.search_links.specs.Hops.{View, startOf, labelOf, toOf, hopsFrom, Opened, Ordered, Smaller, everyLabel, LeastLabel, lead, Starts}
-use Rattle.search_links.specs.Sets.{among, reached, meets, spread, Paired}
+use Rattle.search_links.specs.Sets.{among, reached, meets, spread, rowAt, Paired, Valued}
 use Rattle.search_links.specs.Laws.{until-few, link-low}
 use Rattle.search_links.specs.BookHopLaws.{lead-le, lead-rises}
 
@@ -123,6 +123,41 @@ module _ (row : ℕ → ℕ) where
   pub spread-end : (w out left : ℕ) → Joins out (joined left) (joined w) → out < 2 ^ 64 → left ≡ 0 → out ≡ spread row w
   unfolding spread
   spread-end w out left j l z = joins-end (joined w) out (joined left) j (λ y. none-left left y z) l
+
+-- ---- the union of the rows of a comparison that goes by a value: a row has those of the nodes that pass same
+module _ (ends : List ℕ) (t : ℕ) (lt : t < 2) (values : Valued ends) (w out left i : ℕ) (j : Joins out (joined (rowAt ends t) left) (joined (rowAt ends t) w))
+    (low : IsLowest left i) (off : ℕ) (d : IsWithout left i off) (alike left′ : ℕ) (da : alike ≡ rowAt ends 0 i) (m : IsMinus off alike left′) where
+  bit-left : (x : ℕ) → bit left′ x ≡ (bit left x && not (eqb i x)) && not (bit (rowAt ends 0 i) x)
+  bit-left x =
+      m .bits x ∙ ap₂ _&&_ (ap (λ (u : ℕ). bit u x) (d .is) ∙ bit-without left i x (low .there)) (ap (λ (u : ℕ). not (bit u x)) da)
+
+  value-split : (y : ℕ) → joined (rowAt ends t) left y ≡ bit (rowAt ends t i) y || joined (rowAt ends t) left′ y
+  value-split y = test-eq _ _ to from
+    where
+      by : (x : ℕ) → x < 64 → So (bit left x) → So (bit (rowAt ends t x) y) → (b c : Bool) → eqb i x ≡ b → bit (rowAt ends 0 i) x ≡ c
+          → So (bit (rowAt ends t i) y || joined (rowAt ends t) left′ y)
+      by x l p q true c e f = simp or-iff (inl (rw (eqb-true i x e) q))
+      by x l p q false true e f = simp or-iff (inl (values .alike t i x y lt (low .small) l f q))
+      by x l p q false false e f = simp or-iff (inr (simp facts (x, l, (bit-left x ∙ rw (p, e, f), q))))
+
+      to : So (joined (rowAt ends t) left y) → So (bit (rowAt ends t i) y || joined (rowAt ends t) left′ y)
+      to e = let (x, l, (p, q)) = simp facts at e in by x l p q (eqb i x) (bit (rowAt ends 0 i) x) refl refl
+
+      from : So (bit (rowAt ends t i) y || joined (rowAt ends t) left′ y) → So (joined (rowAt ends t) left y)
+      from e =
+          elim (simp or-iff at e) [
+            | inl u ↦ simp facts (i, low .small, (low .there, u))
+            | inr u ↦
+                let (x, l, (p, q)) = simp facts at u in
+                simp facts (x, l, (and-iff _ _ .0 (and-iff _ _ .0 (sym (bit-left x) ∙ p) .0) .0, q))
+          ]
+
+  pub value-next : (more out′ : ℕ) → more ≡ rowAt ends t i → out′ ≡ bitOr out more → Joins out′ (joined (rowAt ends t) left′) (joined (rowAt ends t) w)
+  value-next more out′ dm dout =
+      rw (dout, dm) (joins-more (joined (rowAt ends t) w) out (rowAt ends t i) (joined (rowAt ends t) left) (joined (rowAt ends t) left′) j (λ y l. value-split y))
+
+  pub value-less : left′ < left
+  value-less = omega (arith, m .most, d .less)
 
 -- ---- whether a link leads to a node of w
 module _ (to : List ℕ) (w until from k : ℕ) (j : meets to w from (until - from) ≡ meets to w k (until - k)) where

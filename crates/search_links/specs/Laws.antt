@@ -1,10 +1,11 @@
 -- Where the lists lead, and what the words have in them, for callers.
 use mathlib.Core.Bool.{So, _&&_}
-use mathlib.Core.Path.{_≡_}
+use mathlib.Core.Path.{_≡_, sym, _∙_}
 use mathlib.Core.Logic.{_↔_, inl, inr}
 use mathlib.Core.List.{List, [], _∷_, List·Memᴰ, List·Memᴰ·not-nil}
 use Prim.Native.Nat.{ℕ, zero, suc, _+_, _^_, _≤_, _<_}
 use native.Mathlib.Omega.{arith}
+use borrow.Author.Tests.{ltb-true}
 use lib.Dec.{eqb}
 use lib.ListN.{getD}
 use Rattle.theory.specs.Search.{any}
@@ -13,7 +14,7 @@ use Rattle.theory.specs.Graph.{Graph, linked}
 use Rattle.theory.specs.Path.{Hop, hop, out}
 use Rattle.theory.specs.WalkLaws.{out-iff}
 use Rattle.words.specs.Words.{bit}
-use Rattle.words.specs.Laws.{bit-wordOf-lt, wordOf-lt}
+use Rattle.words.specs.Laws.{bit-wordOf, bit-wordOf-lt, wordOf-lt}
 use Rattle.search_links.specs.Hops.{View, toOf, hopsFrom, hopsOf, Opened}
 use Rattle.search_links.specs.Sets.{among, reached, meets, leadsTo, spread}
 
@@ -68,6 +69,10 @@ bit-reached hs a y l = bit-wordOf-lt 64 (among hs a) y l
 pub bit-spread : (row : ℕ → ℕ) (w y : ℕ) → y < 64 → bit (spread row w) y ≡ any 64 (λ x. bit w x && bit (row x) y)
 unfolding spread
 bit-spread row w y l = bit-wordOf-lt 64 (λ y. any 64 (λ x. bit w x && bit (row x) y)) y l
+
+pub spread-low : (row : ℕ → ℕ) (w y : ℕ) → So (bit (spread row w) y) → y < 64
+unfolding spread
+spread-low row w y t = ltb-true y 64 (and-iff _ _ .0 (sym (bit-wordOf 64 (λ y. any 64 (λ x. bit w x && bit (row x) y)) y) ∙ t) .0)
 
 pub spread-lt : (row : ℕ → ℕ) (w : ℕ) → spread row w < 2 ^ 64
 unfolding spread

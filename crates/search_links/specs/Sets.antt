@@ -1,6 +1,7 @@
 -- The sets of nodes that the search computes, as words.
-use mathlib.Core.Bool.{Bool, false, So, cond, _&&_, _||_}
+use mathlib.Core.Bool.{Bool, true, false, So, cond, _&&_, _||_}
 use mathlib.Core.Path.{_≡_}
+use mathlib.Core.Logic.{_⊎_}
 use mathlib.Core.List.{List, [], _∷_}
 use Prim.Native.Nat.{ℕ, zero, suc, _+_, _-_, _*_, _<_}
 use lib.Dec.{eqb}
@@ -61,6 +62,10 @@ pub record Valued (ends : List ℕ) : Type 0 where
 -- The nodes that pass same with a node of w: what comparisons see of w.
 abbrev pub sharing : List ℕ → ℕ → ℕ
 sharing ends w = spread (rowAt ends 0) w
+
+-- Node y stands in for node x: it is that node or, where tips are widened, one that passes same with it. Comparisons see no difference.
+abbrev pub StandsIn : List ℕ → Bool → ℕ → ℕ → Type 0
+StandsIn ends wide x y = (x ≡ y) ⊎ ((wide ≡ true) × So (bit (rowAt ends 0 x) y))
 
 -- A set as it is, or widened to what comparisons see of it.
 unfoldable pub seenAs : List ℕ → Bool → ℕ → ℕ

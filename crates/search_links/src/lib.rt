@@ -4,7 +4,7 @@ ghost use mathlib.Core.Path.{_≡_};
 ghost use Prim.Native.Nat.{_≤_, _<_};
 ghost use lib.ListN.{getD};
 ghost use Rattle.search_links.specs.Hops.{viewOf, hopsOf, lead, Smaller, Starts, Opened, Ordered, LeastLabel};
-ghost use Rattle.search_links.specs.Sets.{reached, RowBy, leadsTo, spread, imageOf, rowAt, Paired, seenAs};
+ghost use Rattle.search_links.specs.Sets.{reached, RowBy, leadsTo, spread, imageOf, rowAt, Paired, Valued, seenAs};
 
 // The comparisons, by their place among the rows of the cells that pass one: those of same come first.
 pub const SAME: u8 = 0;
@@ -205,6 +205,23 @@ pub fn passing(ends: &[u64; 128], t: u8, w: u64) -> u64
         let more = row(ends, t, x);
         out = words::union(out, more);
         left = words::without(left, x);
+    }
+    out
+}
+
+// The same of comparisons that go by a value: of the cells of w that pass same with each other one is asked.
+pub fn by_value(ends: &[u64; 128], t: u8, w: u64) -> u64
+    requires { ⌜ (t < 2) × Valued (now ends) ⌝ }
+    ensures { λ r. ⌜ r ≡ spread (rowAt (now (ends .entry)) t) w ⌝ }
+{
+    let mut out: u64 = 0;
+    let mut left = w;
+    while left != 0 {
+        let x = words::lowest(left);
+        let more = row(ends, t, x);
+        let alike = row(ends, SAME, x);
+        out = words::union(out, more);
+        left = words::minus(words::without(left, x), alike);
     }
     out
 }

@@ -109,13 +109,13 @@ module _ (v u : View) (z ea eb : List ℕ) (turned : Bool) (ql qr : List ℕ) (q
             let m : Moves v pl 0 pn (h .class) x k = record { least = omega arith; class = h .below; cell = h .cell; inside = h .inside; leaves = t } in
             rw (← h .word) (b .each (h .class) x k s m (inr (omega arith)) r (omega arith))
 
-    module _ (at : ℕ) (ls₀ rs₀ ls rs : List ℕ) (p : Part) (f : Bool) (more : ℕ) (g : Filled v u z eb false pl pr 0 pn at ls₀ rs₀ 0 0 ls rs p)
+    module _ (at : ℕ) (ls₀ rs₀ ls rs : List ℕ) (p : Part) (f : Bool) (more : ℕ) (g : Filled v u z ea eb false pl pr 0 pn at ls₀ rs₀ 0 0 ls rs p)
         (h : Searched v u z ea eb turned ls rs (p .count) (more - 1) ql qr qn j f) where
       pub below-next : f ≡ false → Below (more - 1) at → Below (more - 1) (p .next)
       below-next q b = record {
         each = λ e x k s m l t d. ⊎-elim
             (λ o.
-            let c = part-whole v u z eb pl pr 0 pn at ls₀ rs₀ ls rs p g e x k m o l in
+            let c = part-whole v u z ea eb pl pr 0 pn at ls₀ rs₀ ls rs p g e x k m o l in
             safe-wider _ _ _ (over-inside v u z s _ _ (c .inside)) (h .none q _ _ s (record { has = c .has; trail = t; long = d })))
             (λ o. b .each e x k s m (inl o) t d)
             (le-or-lt at (slot e (labelOf v k)));
@@ -128,7 +128,7 @@ module _ (v u : View) (z ea eb : List ℕ) (turned : Bool) (ql qr : List ℕ) (q
         where
           by : Hitting v u z ea eb turned ls rs (p .count) (more - 1) ql qr qn j → Hitting v u z ea eb turned pl pr pn more ql qr qn j
           by c =
-              let b = part-sound v u z eb pl pr 0 pn at ls₀ rs₀ ls rs p g _ _ (c .runs .has) in
+              let b = part-sound v u z ea eb pl pr 0 pn at ls₀ rs₀ ls rs p g _ _ (c .runs .has) in
               record {
                 cell = b .cell;
                 word = b .word;

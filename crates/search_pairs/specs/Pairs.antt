@@ -9,7 +9,7 @@ use lib.Dec.{eqb}
 use lib.ListN.{length, getD, take}
 use Rattle.words.specs.Words.{bit}
 use Rattle.search_links.specs.Hops.{View, Ordered}
-use Rattle.search_links.specs.Sets.{spread, rowAt}
+use Rattle.search_links.specs.Sets.{spread, rowAt, Valued}
 use Rattle.search_steps.specs.Paths.{Trail, endOf, endsOver}
 use Rattle.search_pairs.specs.declared.Wanted.{Wanted}
 use Rattle.search_pairs.specs.declared.Route.{Route}
@@ -84,10 +84,12 @@ pub record Sought (v u : View) (z ea eb : List ℕ) (x y i j : ℕ) (r : Pair) :
   pub found : (r .kind ≡ 0 → ⊥) → Shown v u z ea eb x y i j r
   pub none : r .kind ≡ 0 → Clear v u z ea eb x y i j
 
--- What the search asks.
-pub record Asked (v u : View) (x y i j : ℕ) : Type 0 where
+-- What the search asks of two books' lists, nodes of theirs, and lengths.
+pub record Asked (v u : View) (ea eb : List ℕ) (x y i j : ℕ) : Type 0 where
   pub left : Ordered v
   pub right : Ordered u
+  pub own : Valued ea
+  pub other : Valued eb
   pub cell : x < 64
   pub partner : y < 64
   pub first : i ≤ 4

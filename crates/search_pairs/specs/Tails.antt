@@ -5,6 +5,7 @@ use mathlib.Core.List.{List, _∷_}
 use Prim.Native.Nat.{ℕ, _+_, _^_, _≤_, _<_}
 use lib.ListN.{length, replicate}
 use Rattle.search_links.specs.Hops.{View, labelOf, toOf, Ordered}
+use Rattle.search_links.specs.Sets.{Valued}
 use Rattle.search_steps.specs.Paths.{Leaves, Trail, endOf, stepWord, endsOver}
 use Rattle.search_tables.specs.Tips.{Has}
 use Rattle.search_pairs.specs.declared.Route.{Route}
@@ -72,9 +73,11 @@ pub record Searched (v u : View) (z ea eb : List ℕ) (turned : Bool) (pl pr : L
   pub none : f ≡ false → (x w : ℕ) (p : List ℕ) → Runs v pl pr pn i x w p → Safe v u z ea eb turned ql qr qn j (endOf v x p) (endsOver v u z w p)
 
 -- What the search asks: two books' lists, and tables that have room.
-pub record Seeking (v u : View) (pn qn : ℕ) : Type 0 where
+pub record Seeking (v u : View) (ea eb : List ℕ) (pn qn : ℕ) : Type 0 where
   pub left : Ordered v
   pub right : Ordered u
+  pub own : Valued ea
+  pub other : Valued eb
   pub firsts : pn ≤ 64
   pub seconds : qn ≤ 64
 

@@ -1,8 +1,8 @@
--- Comparisons go by a value: widened sets fail as the sets do, and two tips fail whichever of them is the first.
+-- Comparisons go by a value: widened sets fail as the sets do, nodes as those for which they stand in, and two tips fail whichever of them is the first.
 use mathlib.Core.Bool.{Bool, true, false, So}
 use mathlib.Core.Path.{_≡_, refl, sym, ap, ap₂, _∙_}
 use mathlib.Core.List.{List}
-use mathlib.Core.Logic.{_↔_}
+use mathlib.Core.Logic.{_↔_, ⊎-elim}
 use Prim.Native.Nat.{ℕ, _<_}
 use native.Mathlib.Nat.{lt-of-le-of-lt}
 use native.Mathlib.Omega.{arith}
@@ -12,7 +12,7 @@ use lib.Dec.{eqb}
 use Rattle.theory.specs.TestLaws.{never, any-iff, and-iff, test-eq}
 use Rattle.words.specs.Words.{bit}
 use Rattle.words.specs.Laws.{bit-and, bit-zero, zero-iff, wordOf-ext}
-use Rattle.search_links.specs.Sets.{spread, rowAt, Valued, sharing, seenAs}
+use Rattle.search_links.specs.Sets.{spread, rowAt, Valued, sharing, StandsIn, seenAs}
 use Rattle.search_links.specs.Laws.{bit-spread, spread-lt}
 use Rattle.search_pairs.specs.Pairs.{kindOf, failing, fault}
 use Rattle.search_pairs.specs.Laws.{test-off, kind-fewer}
@@ -80,6 +80,28 @@ module _ (eb : List ℕ) (values : Valued eb) where
     pub fault-seen : (a b : Bool) → fault ea eb x (seenAs eb a w) y (seenAs eb b o) ≡ fault ea eb x w y o
     unfolding fault
     fault-seen a b = ap₂ kindOf (failing-seen 0 (omega arith) a b) (failing-seen 1 (omega arith) a b)
+
+-- nodes fail as those do for which they stand in
+module _ (ea : List ℕ) (va : Valued ea) (t : ℕ) (l : t < 2) where
+  row-turned : (x y : ℕ) → x < 64 → y < 64 → bit (rowAt ea t x) y ≡ bit (rowAt ea t y) x
+  row-turned x y lx ly = test-eq _ _ (va .turned t x y l lx ly) (va .turned t y x l ly lx)
+
+  row-stands : (b : Bool) (x x′ y : ℕ) → x < 64 → x′ < 64 → StandsIn ea b x x′ → bit (rowAt ea t x′) y ≡ bit (rowAt ea t x) y
+  row-stands b x x′ y lx lx′ s =
+      ⊎-elim
+      (λ q. rw q)
+      (λ (_, r). test-eq _ _ (va .alike t x x′ y l lx lx′ r) (va .alike t x′ x y l lx′ lx (va .turned 0 x x′ (omega arith) lx lx′ r))) s
+
+  rows-stand : (a b : Bool) (x x′ y y′ : ℕ) → x < 64 → x′ < 64 → y < 64 → y′ < 64 → StandsIn ea a x x′ → StandsIn ea b y y′
+      → bit (rowAt ea t x′) y′ ≡ bit (rowAt ea t x) y
+  rows-stand a b x x′ y y′ lx lx′ ly ly′ s r =
+      row-stands a x x′ y′ lx lx′ s ∙ row-turned x y′ lx ly′ ∙ row-stands b y y′ x ly ly′ r ∙ row-turned y x ly lx
+
+pub fault-stands : (ea eb : List ℕ) → Valued ea → (w o : ℕ) (a b : Bool) (x x′ y y′ : ℕ) → x < 64 → x′ < 64 → y < 64 → y′ < 64 → StandsIn ea a x x′ → StandsIn ea b y y′
+    → fault ea eb x′ w y′ o ≡ fault ea eb x w y o
+unfolding fault failing
+fault-stands ea eb va w o a b x x′ y y′ lx lx′ ly ly′ s r =
+    rw (rows-stand ea va 0 (omega arith) a b x x′ y y′ lx lx′ ly ly′ s r, rows-stand ea va 1 (omega arith) a b x x′ y y′ lx lx′ ly ly′ s r)
 
 -- two tips fail whichever is the first
 module _ (ea eb : List ℕ) (va : Valued ea) (vb : Valued eb) (x w y o : ℕ) (lx : x < 64) (ly : y < 64) where

@@ -4,6 +4,7 @@ ghost use mathlib.Core.Bool.{true, false};
 ghost use mathlib.Core.Path.{_≡_};
 ghost use Prim.Native.Nat.{_+_, _^_, _≤_, _<_};
 ghost use Rattle.search_links.specs.Hops.{viewOf};
+ghost use Rattle.search_links.specs.Sets.{Valued};
 ghost use Rattle.search_pairs.specs.Pairs.{wantedOf, missing, unmet, failing, fault, Asked, Sought};
 ghost use Rattle.search_pairs.specs.Tails.{noLinks, Prepended, Met, Seeking, Searched, Ahead, Told, Next, Foremost, StandsFor};
 
@@ -16,12 +17,12 @@ pub struct Wanted {
 
 // What the class with the ends l and the set r asks for comparison t (0 same, 1 differ).
 fn asks(ea: &[u64; 128], eb: &[u64; 128], t: u8, l: u64, r: u64) -> Wanted
-    requires { ⌜ t < 2 ⌝ }
+    requires { ⌜ (t < 2) × Valued (now ea) × Valued (now eb) ⌝ }
     ensures { λ w. ⌜ w ≡ wantedOf (now (ea .entry)) (now (eb .entry)) t l r ⌝ }
 {
     Wanted {
-        ends: search_links::passing(ea, t, l),
-        answers: search_links::passing(eb, t, r),
+        ends: search_links::by_value(ea, t, l),
+        answers: search_links::by_value(eb, t, r),
     }
 }
 
@@ -56,7 +57,7 @@ pub fn two_tips(
     qr: &[u64; 64],
     qn: usize,
 ) -> bool
-    requires { ⌜ (pn ≤ 64) × (qn ≤ 64) ⌝ }
+    requires { ⌜ (pn ≤ 64) × (qn ≤ 64) × Valued (now ea) × Valued (now eb) ⌝ }
     ensures { λ r. ⌜ Met (now (ea .entry)) (now (eb .entry)) (now (pl .entry)) (now (pr .entry)) pn (now (ql .entry)) (now (qr .entry)) qn r ⌝ }
 {
     let mut found = false;
@@ -99,7 +100,7 @@ fn seek(
     rest: u8,
     turned: bool,
 ) -> bool
-    requires { ⌜ Seeking (viewOf (now sa) (now la) (now ta)) (viewOf (now sb) (now lb) (now tb)) pn qn × (more ≤ 4) × (rest ≤ 4) × (turned ≡ true → rest ≡ 0) ⌝ }
+    requires { ⌜ Seeking (viewOf (now sa) (now la) (now ta)) (viewOf (now sb) (now lb) (now tb)) (now ea) (now eb) pn qn × (more ≤ 4) × (rest ≤ 4) × (turned ≡ true → rest ≡ 0) ⌝ }
     ensures { λ r. ⌜ Searched (viewOf (now (sa .entry)) (now (la .entry)) (now (ta .entry))) (viewOf (now (sb .entry)) (now (lb .entry)) (now (tb .entry))) (now (z .entry)) (now (ea .entry)) (now (eb .entry)) turned (now (pl .entry)) (now (pr .entry)) pn more (now (ql .entry)) (now (qr .entry)) qn rest r ⌝ }
 {
     if more == 0 {
@@ -135,6 +136,7 @@ fn seek(
             sa,
             la,
             ta,
+            ea,
             sb,
             lb,
             tb,
@@ -198,7 +200,7 @@ fn leads_on(
     rest: u8,
     turned: bool,
 ) -> bool
-    requires { ⌜ Seeking (viewOf (now sa) (now la) (now ta)) (viewOf (now sb) (now lb) (now tb)) 1 qn × (x < 64) × (more ≤ 4) × (rest ≤ 4) × (turned ≡ true → rest ≡ 0) ⌝ }
+    requires { ⌜ Seeking (viewOf (now sa) (now la) (now ta)) (viewOf (now sb) (now lb) (now tb)) (now ea) (now eb) 1 qn × (x < 64) × (more ≤ 4) × (rest ≤ 4) × (turned ≡ true → rest ≡ 0) ⌝ }
     ensures { λ r. ⌜ Told (viewOf (now (sa .entry)) (now (la .entry)) (now (ta .entry))) (viewOf (now (sb .entry)) (now (lb .entry)) (now (tb .entry))) (now (z .entry)) (now (ea .entry)) (now (eb .entry)) turned x w more (now (ql .entry)) (now (qr .entry)) qn rest r ⌝ }
 {
     let mut l = [0u64; 64];
@@ -248,7 +250,7 @@ fn next_link(
     rest: u8,
     turned: bool,
 ) -> u16
-    requires { ⌜ Seeking (viewOf (now sa) (now la) (now ta)) (viewOf (now sb) (now lb) (now tb)) 1 qn × (x < 64) × (more < 4) × (rest ≤ 4) × (turned ≡ true → rest ≡ 0) × Ahead (viewOf (now sa) (now la) (now ta)) (viewOf (now sb) (now lb) (now tb)) (now z) (now ea) (now eb) turned x w (more + 1) (now ql) (now qr) qn rest ⌝ }
+    requires { ⌜ Seeking (viewOf (now sa) (now la) (now ta)) (viewOf (now sb) (now lb) (now tb)) (now ea) (now eb) 1 qn × (x < 64) × (more < 4) × (rest ≤ 4) × (turned ≡ true → rest ≡ 0) × Ahead (viewOf (now sa) (now la) (now ta)) (viewOf (now sb) (now lb) (now tb)) (now z) (now ea) (now eb) turned x w (more + 1) (now ql) (now qr) qn rest ⌝ }
     ensures { λ r. ⌜ Next (viewOf (now (sa .entry)) (now (la .entry)) (now (ta .entry))) (viewOf (now (sb .entry)) (now (lb .entry)) (now (tb .entry))) (now (z .entry)) (now (ea .entry)) (now (eb .entry)) turned x w more (now (ql .entry)) (now (qr .entry)) qn rest r ⌝ }
 {
     let until = sa[x as usize + 1];
@@ -337,7 +339,7 @@ fn first_path(
     rest: u8,
     turned: bool,
 ) -> Tail
-    requires { ⌜ Seeking (viewOf (now sa) (now la) (now ta)) (viewOf (now sb) (now lb) (now tb)) 1 qn × (x < 64) × (more ≤ 4) × (rest ≤ 4) × (turned ≡ true → rest ≡ 0) × Ahead (viewOf (now sa) (now la) (now ta)) (viewOf (now sb) (now lb) (now tb)) (now z) (now ea) (now eb) turned x w more (now ql) (now qr) qn rest ⌝ }
+    requires { ⌜ Seeking (viewOf (now sa) (now la) (now ta)) (viewOf (now sb) (now lb) (now tb)) (now ea) (now eb) 1 qn × (x < 64) × (more ≤ 4) × (rest ≤ 4) × (turned ≡ true → rest ≡ 0) × Ahead (viewOf (now sa) (now la) (now ta)) (viewOf (now sb) (now lb) (now tb)) (now z) (now ea) (now eb) turned x w more (now ql) (now qr) qn rest ⌝ }
     ensures { λ r. ⌜ Foremost (viewOf (now (sa .entry)) (now (la .entry)) (now (ta .entry))) (viewOf (now (sb .entry)) (now (lb .entry)) (now (tb .entry))) (now (z .entry)) (now (ea .entry)) (now (eb .entry)) turned x w more (now (ql .entry)) (now (qr .entry)) qn rest r ⌝ }
 {
     if more == 0 {
@@ -460,7 +462,7 @@ pub fn first_pair(
     qn: usize,
     rest: u8,
 ) -> Pair
-    requires { ⌜ Asked (viewOf (now sa) (now la) (now ta)) (viewOf (now sb) (now lb) (now tb)) x y i j × (qn ≤ 64) × (rest ≤ 4) × Ahead (viewOf (now sa) (now la) (now ta)) (viewOf (now sb) (now lb) (now tb)) (now z) (now ea) (now eb) false x (2 ^ y) i (now ql) (now qr) qn rest × StandsFor (viewOf (now sa) (now la) (now ta)) (viewOf (now sb) (now lb) (now tb)) (now z) (now ea) (now eb) x y i j (now ql) (now qr) qn rest ⌝ }
+    requires { ⌜ Asked (viewOf (now sa) (now la) (now ta)) (viewOf (now sb) (now lb) (now tb)) (now ea) (now eb) x y i j × (qn ≤ 64) × (rest ≤ 4) × Ahead (viewOf (now sa) (now la) (now ta)) (viewOf (now sb) (now lb) (now tb)) (now z) (now ea) (now eb) false x (2 ^ y) i (now ql) (now qr) qn rest × StandsFor (viewOf (now sa) (now la) (now ta)) (viewOf (now sb) (now lb) (now tb)) (now z) (now ea) (now eb) x y i j (now ql) (now qr) qn rest ⌝ }
     ensures { λ r. ⌜ Sought (viewOf (now (sa .entry)) (now (la .entry)) (now (ta .entry))) (viewOf (now (sb .entry)) (now (lb .entry)) (now (tb .entry))) (now (z .entry)) (now (ea .entry)) (now (eb .entry)) x y i j r ⌝ }
 {
     let partner = words::only(y);
@@ -532,7 +534,7 @@ pub fn two_paths(
     i: u8,
     j: u8,
 ) -> Pair
-    requires { ⌜ Asked (viewOf (now sa) (now la) (now ta)) (viewOf (now sb) (now lb) (now tb)) x y i j ⌝ }
+    requires { ⌜ Asked (viewOf (now sa) (now la) (now ta)) (viewOf (now sb) (now lb) (now tb)) (now ea) (now eb) x y i j ⌝ }
     ensures { λ r. ⌜ Sought (viewOf (now (sa .entry)) (now (la .entry)) (now (ta .entry))) (viewOf (now (sb .entry)) (now (lb .entry)) (now (tb .entry))) (now (z .entry)) (now (ea .entry)) (now (eb .entry)) x y i j r ⌝ }
 {
     let partner = words::only(y);

@@ -15,7 +15,7 @@ use Rattle.theory.specs.TestLaws.{never, le-or-lt, and-iff, or-iff, not-iff}
 use Rattle.words.specs.Words.{bit, IsLowest, IsWithout}
 use Rattle.words.specs.Laws.{bit-zero, bit-or, bit-without}
 use Rattle.search_links.specs.Hops.{View, labelOf, toOf, hopsOf, Opened, everyLabel, LeastLabel}
-use Rattle.search_links.specs.Sets.{reached, imageOf, rowAt, seenAs}
+use Rattle.search_links.specs.Sets.{reached, imageOf, rowAt, StandsIn, seenAs}
 use Rattle.search_tables.specs.declared.Grown.{Grown}
 use Rattle.search_tables.specs.Tips.{Has, Covered, TableRoom, Untouched, cutAs, Grew}
 use Rattle.search_tables.specs.Laws.{equal-or, covered-by-has, covered-trans, untouched-refl, untouched-trans}
@@ -134,19 +134,19 @@ module _ (v : View) (cells a base : ℕ) (rows₀ : List ℕ) where
               (g .each y l i)) h
 
 -- ---- the classes of a table are gone through for one label: the other table covers the tips by those passed
-pub record Stretching (z ends : List ℕ) (wide : Bool) (rows ls rs : List ℕ) (n from : ℕ) (ls₀ rs₀ : List ℕ) (base count : ℕ) (ls′ rs′ : List ℕ) (total e : ℕ) : Type 0 where
+pub record Stretching (z own ends : List ℕ) (wide : Bool) (rows ls rs : List ℕ) (n from : ℕ) (ls₀ rs₀ : List ℕ) (base count : ℕ) (ls′ rs′ : List ℕ) (total e : ℕ) : Type 0 where
   pub room : TableRoom ls′ rs′ total
   pub low : Untouched base ls₀ rs₀ ls′ rs′
   pub least : base ≤ total
   pub onward : from ≤ e
   pub fresh : e ≡ from → total ≡ count
   pub sound : (y o : ℕ) → Has ls′ rs′ total y o
-      → Has ls₀ rs₀ count y o ⊎ ((e : ℕ) × (from ≤ e) × (e < n) × So (bit (cellsBy rows ls e) y) × (cutAs ends wide z (setBy rows rs e) y ≡ o))
+      → Has ls₀ rs₀ count y o ⊎ ((e x : ℕ) × (from ≤ e) × (e < n) × So (bit (cellsBy rows ls e) x) × StandsIn own wide x y × (cutAs ends wide z (setBy rows rs e) x ≡ o))
   pub kept : (y o : ℕ) → Has ls₀ rs₀ count y o → Covered ls′ rs′ total y o
   pub whole : (j y : ℕ) → from ≤ j → j < e → y < 64 → So (bit (cellsBy rows ls j) y) → Covered ls′ rs′ total y (cutAs ends wide z (setBy rows rs j) y)
 
-module _ (z ends : List ℕ) (wide : Bool) (rows ls rs : List ℕ) (n from : ℕ) (ls₀ rs₀ : List ℕ) (base count : ℕ) where
-  pub stretching-start : TableRoom ls₀ rs₀ count → base ≤ count → Stretching z ends wide rows ls rs n from ls₀ rs₀ base count ls₀ rs₀ count from
+module _ (z own ends : List ℕ) (wide : Bool) (rows ls rs : List ℕ) (n from : ℕ) (ls₀ rs₀ : List ℕ) (base count : ℕ) where
+  pub stretching-start : TableRoom ls₀ rs₀ count → base ≤ count → Stretching z own ends wide rows ls rs n from ls₀ rs₀ base count ls₀ rs₀ count from
   stretching-start r b = record {
     room = r;
     low = untouched-refl base ls₀ rs₀;
@@ -158,9 +158,9 @@ module _ (z ends : List ℕ) (wide : Bool) (rows ls rs : List ℕ) (n from : ℕ
     whole = λ j y a b. absurd (omega arith);
   }
 
-  module _ (ls′ rs′ : List ℕ) (total e : ℕ) (f : Stretching z ends wide rows ls rs n from ls₀ rs₀ base count ls′ rs′ total e) where
+  module _ (ls′ rs′ : List ℕ) (total e : ℕ) (f : Stretching z own ends wide rows ls rs n from ls₀ rs₀ base count ls′ rs′ total e) where
     pub stretching-end : n ≤ e → (r : Stretch) → r .count ≡ total → r .upto ≡ e → r .full ≡ false
-        → Stretched z ends wide rows ls rs n from ls₀ rs₀ base count ls′ rs′ r
+        → Stretched z own ends wide rows ls rs n from ls₀ rs₀ base count ls′ rs′ r
     stretching-end l r dc du df = record {
       room = rw dc (f .room);
       low = f .low;
@@ -173,10 +173,10 @@ module _ (z ends : List ℕ) (wide : Bool) (rows ls rs : List ℕ) (n from : ℕ
       all = λ _. omega arith;
     }
 
-    module _ (cells s : ℕ) (dc : cells ≡ cellsBy rows ls e) (ds : s ≡ setBy rows rs e) (l : e < n) (ls″ rs″ : List ℕ) (g : Grown) (w : Grew z ends wide ls′ rs′ base total cells s ls″ rs″ g) where
+    module _ (cells s : ℕ) (dc : cells ≡ cellsBy rows ls e) (ds : s ≡ setBy rows rs e) (l : e < n) (ls″ rs″ : List ℕ) (g : Grown) (w : Grew z own ends wide ls′ rs′ base total cells s ls″ rs″ g) where
       on-sound : (y o : ℕ) → Has ls″ rs″ (g .count) y o
-          → Has ls₀ rs₀ count y o ⊎ ((e : ℕ) × (from ≤ e) × (e < n) × So (bit (cellsBy rows ls e) y) × (cutAs ends wide z (setBy rows rs e) y ≡ o))
-      on-sound y o h = ⊎-elim (λ h. f .sound y o h) (λ (i, q). inr (e, f .onward, l, rw (← dc) i, rw (← ds) q)) (w .sound y o h)
+          → Has ls₀ rs₀ count y o ⊎ ((e x : ℕ) × (from ≤ e) × (e < n) × So (bit (cellsBy rows ls e) x) × StandsIn own wide x y × (cutAs ends wide z (setBy rows rs e) x ≡ o))
+      on-sound y o h = ⊎-elim (λ h. f .sound y o h) (λ (x, i, t, q). inr (e, x, f .onward, l, rw (← dc) i, t, rw (← ds) q)) (w .sound y o h)
 
       -- what was covered before is covered still
       still : (y o : ℕ) → Covered ls′ rs′ total y o → Covered ls″ rs″ (g .count) y o
@@ -189,7 +189,7 @@ module _ (z ends : List ℕ) (wide : Bool) (rows ls rs : List ℕ) (n from : ℕ
       on-low = untouched-trans base ls₀ rs₀ ls′ rs′ (f .low) ls″ rs″ (w .low)
 
       pub stretching-full : g .full ≡ true → (r : Stretch) → r .count ≡ g .count → r .upto ≡ e → r .full ≡ true
-          → Stretched z ends wide rows ls rs n from ls₀ rs₀ base count ls″ rs″ r
+          → Stretched z own ends wide rows ls rs n from ls₀ rs₀ base count ls″ rs″ r
       stretching-full t r dn du df = record {
         room = rw dn (w .room);
         low = on-low;
@@ -202,7 +202,7 @@ module _ (z ends : List ℕ) (wide : Bool) (rows ls rs : List ℕ) (n from : ℕ
         all = λ t. absurd (false≢true (sym t ∙ df));
       }
 
-      pub stretching-next : g .full ≡ false → Stretching z ends wide rows ls rs n from ls₀ rs₀ base count ls″ rs″ (g .count) (e + 1)
+      pub stretching-next : g .full ≡ false → Stretching z own ends wide rows ls rs n from ls₀ rs₀ base count ls″ rs″ (g .count) (e + 1)
       stretching-next t = record {
         room = w .room;
         low = on-low;
@@ -245,7 +245,7 @@ module _ (first a at : ℕ) where
   begins-first h = record { least = omega arith; few = λ b. b; reaches = λ l. ⊎-elim (λ q. omega (arith, h (sym q))) (λ s. omega arith) (eq-or-lt-of-le l); most = λ e b m. b }
 
 -- ---- a table is filled: it covers the tips by the classes and labels passed
-pub record Filling (v u : View) (z ends : List ℕ) (wide : Bool) (ls rs : List ℕ) (first n at : ℕ) (ls₀ rs₀ : List ℕ) (base count : ℕ) (ls′ rs′ : List ℕ) (total a from : ℕ) : Type 0 where
+pub record Filling (v u : View) (z own ends : List ℕ) (wide : Bool) (ls rs : List ℕ) (first n at : ℕ) (ls₀ rs₀ : List ℕ) (base count : ℕ) (ls′ rs′ : List ℕ) (total a from : ℕ) : Type 0 where
   pub room : TableRoom ls′ rs′ total
   pub low : Untouched base ls₀ rs₀ ls′ rs′
   pub least : base ≤ total
@@ -254,13 +254,13 @@ pub record Filling (v u : View) (z ends : List ℕ) (wide : Bool) (ls rs : List 
   pub begun : at < 64 * (a + 1)
   pub most : a ≤ everyLabel
   pub fresh : (at < slot from a) ⊎ (total ≡ count)
-  pub sound : (y o : ℕ) → Has ls′ rs′ total y o → Has ls₀ rs₀ count y o ⊎ ((w : ℕ) × Beyond v u z ls rs n y w × (seenAs ends wide w ≡ o))
+  pub sound : (y o : ℕ) → Has ls′ rs′ total y o → Has ls₀ rs₀ count y o ⊎ ((x w : ℕ) × Beyond v u z ls rs n x w × StandsIn own wide x y × (seenAs ends wide w ≡ o))
   pub kept : (y o : ℕ) → Has ls₀ rs₀ count y o → Covered ls′ rs′ total y o
   pub whole : (e x k : ℕ) → Moves v ls first n e x k → at ≤ slot e (labelOf v k) → slot e (labelOf v k) < slot from a
       → Covered ls′ rs′ total (toOf v k) (seenAs ends wide (stepWord u z (getD rs e 0) (labelOf v k) (toOf v k)))
   pub ended : a ≡ everyLabel → (e x k : ℕ) → Moves v ls first n e x k → labelOf v k < everyLabel
 
-module _ (v u : View) (z ends : List ℕ) (wide : Bool) (ls rs : List ℕ) (first n at : ℕ) (ls₀ rs₀ : List ℕ) (base count : ℕ) (few : n ≤ 64) (here : ℕ) (wl : Unites ls first n here) where
+module _ (v u : View) (z own ends : List ℕ) (wide : Bool) (ls rs : List ℕ) (first n at : ℕ) (ls₀ rs₀ : List ℕ) (base count : ℕ) (few : n ≤ 64) (here : ℕ) (wl : Unites ls first n here) where
   -- a link out of a class has none of the labels between
   none-between : (least a : ℕ) → NextLabel v here least a → (e x k : ℕ) → Moves v ls first n e x k → least ≤ labelOf v k
       → (a ≤ labelOf v k) × (a < everyLabel)
@@ -268,7 +268,7 @@ module _ (v u : View) (z ends : List ℕ) (wide : Bool) (ls rs : List ℕ) (firs
       h .none x k (m .cell) (wl .each e x (m .least) (m .class) (m .inside)) (m .leaves) l
 
   pub filling-start : TableRoom ls₀ rs₀ count → base ≤ count → at ≤ lastPlace → (d a from : ℕ) → d ≡ at / 64 → NextLabel v here d a → Begins first a at from
-      → Filling v u z ends wide ls rs first n at ls₀ rs₀ base count ls₀ rs₀ count a from
+      → Filling v u z own ends wide ls rs first n at ls₀ rs₀ base count ls₀ rs₀ count a from
   filling-start r b l d a from dd h s = record {
     room = r;
     low = untouched-refl base ls₀ rs₀;
@@ -290,8 +290,8 @@ module _ (v u : View) (z ends : List ℕ) (wide : Bool) (ls rs : List ℕ) (firs
           let j = none-between d a h e x k m i .0 in
           ⊎-elim (λ q. omega (arith, s .most e (m .least) (rw q c))) (λ o. omega (arith, m .class, s .few (omega (arith, m .least, m .class)))) (eq-or-lt-of-le j)
 
-  module _ (ls′ rs′ : List ℕ) (total a from : ℕ) (f : Filling v u z ends wide ls rs first n at ls₀ rs₀ base count ls′ rs′ total a from) where
-    pub filling-end : everyLabel ≤ a → (r : Part) → r .count ≡ total → r .next ≡ lastPlace → Filled v u z ends wide ls rs first n at ls₀ rs₀ base count ls′ rs′ r
+  module _ (ls′ rs′ : List ℕ) (total a from : ℕ) (f : Filling v u z own ends wide ls rs first n at ls₀ rs₀ base count ls′ rs′ total a from) where
+    pub filling-end : everyLabel ≤ a → (r : Part) → r .count ≡ total → r .next ≡ lastPlace → Filled v u z own ends wide ls rs first n at ls₀ rs₀ base count ls′ rs′ r
     filling-end l r dc dx = record {
       room = rw dc (f .room);
       low = f .low;
@@ -305,16 +305,17 @@ module _ (v u : View) (z ends : List ℕ) (wide : Bool) (ls rs : List ℕ) (firs
 
     module _ (there : ℕ) (wr : Unites rs first n there) (rows rows₁ rows₂ : List ℕ) (a′ : ℕ) (da : a′ ≡ a)
         (fa : Rowed v here a′ 0 rows rows₁) (fb : Rowed u there a′ 64 rows₁ rows₂) (l : a < everyLabel)
-        (ls″ rs″ : List ℕ) (p : Stretch) (w : Stretched z ends wide rows₂ ls rs n from ls′ rs′ base total ls″ rs″ p) where
-      label-sound : (y o : ℕ) → Has ls″ rs″ (p .count) y o → Has ls₀ rs₀ count y o ⊎ ((w : ℕ) × Beyond v u z ls rs n y w × (seenAs ends wide w ≡ o))
+        (ls″ rs″ : List ℕ) (p : Stretch) (w : Stretched z own ends wide rows₂ ls rs n from ls′ rs′ base total ls″ rs″ p) where
+      label-sound : (y o : ℕ) → Has ls″ rs″ (p .count) y o → Has ls₀ rs₀ count y o ⊎ ((x w : ℕ) × Beyond v u z ls rs n x w × StandsIn own wide x y × (seenAs ends wide w ≡ o))
       unfolding stepWord
       label-sound y o h =
           ⊎-elim (f .sound y o)
-          (λ (e, c, b, i, q).
+          (λ (e, x, c, b, i, r, q).
           let s : first ≤ e = omega (arith, f .since) in
-          let t = image-out v (getD ls e 0) a′ y (h .cell) (rw (cells-are v u here there a′ rows rows₁ rows₂ fa fb ls first n e wl s b) at i) in
+          let t = image-out v (getD ls e 0) a′ x (rw (cells-are v u here there a′ rows rows₁ rows₂ fa fb ls first n e wl s b) at i) in
           inr (
-            stepWord u z (getD rs e 0) (labelOf v (t .link)) y,
+            x,
+            stepWord u z (getD rs e 0) (labelOf v (t .link)) x,
             record {
               cell = t .node;
               word = getD rs e 0;
@@ -322,6 +323,7 @@ module _ (v u : View) (z ends : List ℕ) (wide : Bool) (ls rs : List ℕ) (firs
               has = record { class = e; below = b; cell = t .low; inside = t .inside; word = refl };
               leads = record { leaves = t .leaves; to = t .to; word = refl };
             },
+            r,
             rw (t .label) (rw (set-is v u here there a′ rows rows₁ rows₂ fa fb rs first n e wr s b) at q),
           ))
           (w .sound y o h)
@@ -350,7 +352,7 @@ module _ (v u : View) (z ends : List ℕ) (wide : Bool) (ls rs : List ℕ) (firs
             → Covered ls″ rs″ (p .count) (toOf v k) (seenAs ends wide (stepWord u z (getD rs e 0) (labelOf v k) (toOf v k)))
         whole-upto e x k m b h = ⊎-elim (λ s. later _ _ (f .whole e x k m b s)) (λ (q, s, t). label-whole e x k m q s t) h
 
-        pub filling-full : p .full ≡ true → (r : Part) → r .count ≡ p .count → r .next ≡ 64 * a + p .upto → Filled v u z ends wide ls rs first n at ls₀ rs₀ base count ls″ rs″ r
+        pub filling-full : p .full ≡ true → (r : Part) → r .count ≡ p .count → r .next ≡ 64 * a + p .upto → Filled v u z own ends wide ls rs first n at ls₀ rs₀ base count ls″ rs″ r
         filling-full t r dn dx = record {
           room = rw dn (w .room);
           low = label-low;
@@ -369,7 +371,7 @@ module _ (v u : View) (z ends : List ℕ) (wide : Bool) (ls rs : List ℕ) (firs
             parts e j c g s = ⊎-elim (λ b. inl b) (λ b. inr (omega (arith, w .full t .0), omega (arith, w .full t .0), omega (arith, w .full t .0))) (or-not (slot e j) (slot from a))
 
         pub filling-next : p .full ≡ false → (a″ : ℕ) → NextLabel v here (a′ + 1) a″
-            → Filling v u z ends wide ls rs first n at ls₀ rs₀ base count ls″ rs″ (p .count) a″ first
+            → Filling v u z own ends wide ls rs first n at ls₀ rs₀ base count ls″ rs″ (p .count) a″ first
         filling-next t a″ h = record {
           room = w .room;
           low = label-low;

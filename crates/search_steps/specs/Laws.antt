@@ -7,13 +7,13 @@ use Prim.Native.Nat.{ℕ, zero, suc, _+_, _≤_, _<_}
 use native.Mathlib.Nat.{eq-or-lt-of-le, le-of-suc-le-suc}
 use native.Mathlib.Omega.{arith}
 use lib.ListN.{length, getD}
-use Rattle.theory.specs.TestLaws.{any-iff, and-iff, test-eq}
+use Rattle.theory.specs.TestLaws.{never, any-iff, and-iff, test-eq}
 use Rattle.theory.specs.Path.{Hop}
 use Rattle.words.specs.Words.{bit, Inside}
 use Rattle.words.specs.Laws.{bit-and, wordOf-ext, bit-wordOf}
 use Rattle.search_links.specs.Hops.{View, startOf, labelOf, toOf, total, hopAt, hopsFrom, hopsOf, Opened}
 use Rattle.search_links.specs.Sets.{among, reached, spread, imageOf, seenAs}
-use Rattle.search_links.specs.Laws.{among-iff, bit-reached, bit-spread}
+use Rattle.search_links.specs.Laws.{among-iff, bit-reached, bit-spread, spread-low}
 use Rattle.search_tables.specs.Tips.{Has, Covered}
 use Rattle.search_steps.specs.declared.Part.{Part}
 use Rattle.search_steps.specs.Paths.{Leaves, Trail, endOf, stepWord, endsOver}
@@ -91,8 +91,9 @@ module _ (v : View) where
     pub label : labelOf v link ≡ a
     pub to : toOf v link ≡ y
 
-  pub image-out : (w a y : ℕ) → y < 64 → So (bit (imageOf v w a) y) → Led w a y
-  image-out w a y l e =
+  pub image-out : (w a y : ℕ) → So (bit (imageOf v w a) y) → Led w a y
+  image-out w a y e =
+      let l = spread-low (λ x. reached (hopsOf v x) a) w y e in
       let (x, low, (i, j)) = simp (any-iff, and-iff) at (sym (bit-spread (λ x. reached (hopsOf v x) a) w y l) ∙ e) in
       let (k, m, b, q) = hop-out (startOf v x) _ _ (among-iff (hopsOf v x) a y .0 (sym (bit-reached (hopsOf v x) a y l) ∙ j)) in
       record { node = x; link = k; low = low; inside = i; leaves = record { from = m; until = omega arith }; label = sym (ap (λ (h : Hop). h .label) q); to = sym (ap (λ (h : Hop). h .to) q) }
@@ -141,11 +142,12 @@ module _ (v u : View) (z : List ℕ) where
       record { front = k ∷ s .front; back = s .back; is = ap (λ (q : List ℕ). k ∷ q) (s .is); trail = (t, s .trail); onward = s .onward; long = ap suc (s .long); rest = s .rest }
 
 -- ---- a table that is filled from nothing with tips as they are
-module _ (v u : View) (z ends ls rs : List ℕ) (first n at : ℕ) (ls₀ rs₀ ls′ rs′ : List ℕ) (p : Part) (f : Filled v u z ends false ls rs first n at ls₀ rs₀ 0 0 ls′ rs′ p) where
+module _ (v u : View) (z own ends ls rs : List ℕ) (first n at : ℕ) (ls₀ rs₀ ls′ rs′ : List ℕ) (p : Part) (f : Filled v u z own ends false ls rs first n at ls₀ rs₀ 0 0 ls′ rs′ p) where
   -- has tips one link beyond
   pub part-sound : (y o : ℕ) → Has ls′ rs′ (p .count) y o → Beyond v u z ls rs n y o
   unfolding seenAs
-  part-sound y o h = ⊎-elim (λ g. absurd (omega (arith, g .below))) (λ (w, b, e). rw e at b) (f .sound y o h)
+  part-sound y o h =
+      ⊎-elim (λ g. absurd (omega (arith, g .below))) (λ (x, w, b, t, e). rw e at (⊎-elim (λ q. rw q at b) (λ (q, _). never q) t)) (f .sound y o h)
 
   -- and covers those passed
   pub part-whole : (e x k : ℕ) → Moves v ls first n e x k → at ≤ slot e (labelOf v k) → Passed (slot e (labelOf v k)) (p .next)

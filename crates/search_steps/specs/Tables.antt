@@ -7,7 +7,7 @@ use Prim.Native.Nat.{ℕ, _+_, _*_, _/_, _≤_, _<_}
 use lib.ListN.{length, getD}
 use Rattle.words.specs.Words.{bit}
 use Rattle.search_links.specs.Hops.{View, labelOf, toOf, hopsOf, everyLabel}
-use Rattle.search_links.specs.Sets.{reached, spread, rowAt, seenAs}
+use Rattle.search_links.specs.Sets.{reached, spread, rowAt, StandsIn, seenAs}
 use Rattle.search_tables.specs.Tips.{Has, Covered, TableRoom, Untouched, cutAs}
 use Rattle.search_steps.specs.declared.Stretch.{Stretch}
 use Rattle.search_steps.specs.declared.Part.{Part}
@@ -52,14 +52,14 @@ cellsBy rows ls e = spread (rowAt rows 0) (getD ls e 0)
 abbrev pub setBy : List ℕ → List ℕ → ℕ → ℕ
 setBy rows rs e = spread (rowAt rows 1) (getD rs e 0)
 
--- The table has nothing but what it had and tips that the rows of a label lead to from a class from `from` on, these from class `base` on. It covers
--- what it had, and the tips from the classes from `from` up to r .upto.
-pub record Stretched (z ends : List ℕ) (wide : Bool) (rows ls rs : List ℕ) (n from : ℕ) (ls₀ rs₀ : List ℕ) (base count : ℕ) (ls′ rs′ : List ℕ) (r : Stretch) : Type 0 where
+-- The table has nothing but what it had and tips that the rows of a label lead to from a class from `from` on, or those of nodes that stand in for theirs,
+-- these from class `base` on. It covers what it had, and the tips from the classes from `from` up to r .upto.
+pub record Stretched (z own ends : List ℕ) (wide : Bool) (rows ls rs : List ℕ) (n from : ℕ) (ls₀ rs₀ : List ℕ) (base count : ℕ) (ls′ rs′ : List ℕ) (r : Stretch) : Type 0 where
   pub room : TableRoom ls′ rs′ (r .count)
   pub low : Untouched base ls₀ rs₀ ls′ rs′
   pub least : base ≤ r .count
   pub sound : (y o : ℕ) → Has ls′ rs′ (r .count) y o
-      → Has ls₀ rs₀ count y o ⊎ ((e : ℕ) × (from ≤ e) × (e < n) × So (bit (cellsBy rows ls e) y) × (cutAs ends wide z (setBy rows rs e) y ≡ o))
+      → Has ls₀ rs₀ count y o ⊎ ((e x : ℕ) × (from ≤ e) × (e < n) × So (bit (cellsBy rows ls e) x) × StandsIn own wide x y × (cutAs ends wide z (setBy rows rs e) x ≡ o))
   pub kept : (y o : ℕ) → Has ls₀ rs₀ count y o → Covered ls′ rs′ (r .count) y o
   pub whole : (e y : ℕ) → from ≤ e → e < r .upto → y < 64 → So (bit (cellsBy rows ls e) y) → Covered ls′ rs′ (r .count) y (cutAs ends wide z (setBy rows rs e) y)
   pub onward : from ≤ r .upto
@@ -93,13 +93,13 @@ pub record Begins (first a at from : ℕ) : Type 0 where
   pub reaches : at / 64 ≤ a → at ≤ slot from a
   pub most : (e : ℕ) → first ≤ e → at ≤ slot e a → from ≤ e
 
--- The table has nothing but what it had and tips one link beyond the classes of another from `first` on, as they are or widened, these from class `base`
--- on. It covers what it had, and the tips by the classes and labels from place `at` up to p .next, which is further on where the table was empty.
-pub record Filled (v u : View) (z ends : List ℕ) (wide : Bool) (ls rs : List ℕ) (first n at : ℕ) (ls₀ rs₀ : List ℕ) (base count : ℕ) (ls′ rs′ : List ℕ) (p : Part) : Type 0 where
+-- The table has nothing but what it had and tips one link beyond the classes of another from `first` on, as they are or widened (then of nodes that stand
+-- in for theirs too), these from class `base` on. It covers what it had, and the tips by the classes and labels from place `at` up to p .next, which is further on where the table was empty.
+pub record Filled (v u : View) (z own ends : List ℕ) (wide : Bool) (ls rs : List ℕ) (first n at : ℕ) (ls₀ rs₀ : List ℕ) (base count : ℕ) (ls′ rs′ : List ℕ) (p : Part) : Type 0 where
   pub room : TableRoom ls′ rs′ (p .count)
   pub low : Untouched base ls₀ rs₀ ls′ rs′
   pub least : base ≤ p .count
-  pub sound : (y o : ℕ) → Has ls′ rs′ (p .count) y o → Has ls₀ rs₀ count y o ⊎ ((w : ℕ) × Beyond v u z ls rs n y w × (seenAs ends wide w ≡ o))
+  pub sound : (y o : ℕ) → Has ls′ rs′ (p .count) y o → Has ls₀ rs₀ count y o ⊎ ((x w : ℕ) × Beyond v u z ls rs n x w × StandsIn own wide x y × (seenAs ends wide w ≡ o))
   pub kept : (y o : ℕ) → Has ls₀ rs₀ count y o → Covered ls′ rs′ (p .count) y o
   pub whole : (e x k : ℕ) → Moves v ls first n e x k → at ≤ slot e (labelOf v k) → Passed (slot e (labelOf v k)) (p .next)
       → Covered ls′ rs′ (p .count) (toOf v k) (seenAs ends wide (stepWord u z (getD rs e 0) (labelOf v k) (toOf v k)))

@@ -104,6 +104,7 @@ pub struct Stretch {
 // the rows of the label, of the one book at 0 and of the other at 64.
 fn fill_label(
     z: &[u64; 64],
+    ea: &[u64; 128],
     eb: &[u64; 128],
     wide: bool,
     rows: &[u64; 128],
@@ -117,14 +118,14 @@ fn fill_label(
     count: usize,
 ) -> Stretch
     requires { ⌜ TableRoom (now ends) (now sets) count × (base ≤ count) × (n ≤ 64) ⌝ }
-    ensures { λ r. ⌜ Stretched (now (z .entry)) (now (eb .entry)) wide (now (rows .entry)) (now (lefts .entry)) (now (rights .entry)) n from (now (ends .entry)) (now (sets .entry)) base count (now (ends .exit)) (now (sets .exit)) r ⌝ }
+    ensures { λ r. ⌜ Stretched (now (z .entry)) (now (ea .entry)) (now (eb .entry)) wide (now (rows .entry)) (now (lefts .entry)) (now (rights .entry)) n from (now (ends .entry)) (now (sets .entry)) base count (now (ends .exit)) (now (sets .exit)) r ⌝ }
 {
     let mut total = count;
     let mut e = from;
     while e < n {
         let cells = search_links::passing(rows, 0, lefts[e]);
         let s = search_links::passing(rows, 1, rights[e]);
-        let g = search_tables::grow(z, eb, wide, ends, sets, base, total, cells, s);
+        let g = search_tables::grow(z, ea, eb, wide, ends, sets, base, total, cells, s);
         total = g.count;
         if g.full {
             return Stretch {
@@ -166,6 +167,7 @@ pub fn fill(
     sa: &[u16; 65],
     la: &[u16; 512],
     ta: &[u8; 512],
+    ea: &[u64; 128],
     sb: &[u16; 65],
     lb: &[u16; 512],
     tb: &[u8; 512],
@@ -183,7 +185,7 @@ pub fn fill(
     count: usize,
 ) -> Part
     requires { ⌜ Ordered (viewOf (now sa) (now la) (now ta)) × Ordered (viewOf (now sb) (now lb) (now tb)) × (n ≤ 64) × (at ≤ lastPlace) × TableRoom (now ends) (now sets) count × (base ≤ count) ⌝ }
-    ensures { λ r. ⌜ Filled (viewOf (now (sa .entry)) (now (la .entry)) (now (ta .entry))) (viewOf (now (sb .entry)) (now (lb .entry)) (now (tb .entry))) (now (z .entry)) (now (eb .entry)) wide (now (lefts .entry)) (now (rights .entry)) first n at (now (ends .entry)) (now (sets .entry)) base count (now (ends .exit)) (now (sets .exit)) r ⌝ }
+    ensures { λ r. ⌜ Filled (viewOf (now (sa .entry)) (now (la .entry)) (now (ta .entry))) (viewOf (now (sb .entry)) (now (lb .entry)) (now (tb .entry))) (now (z .entry)) (now (ea .entry)) (now (eb .entry)) wide (now (lefts .entry)) (now (rights .entry)) first n at (now (ends .entry)) (now (sets .entry)) base count (now (ends .exit)) (now (sets .exit)) r ⌝ }
 {
     let here = union_of(lefts, first, n);
     let there = union_of(rights, first, n);
@@ -196,6 +198,7 @@ pub fn fill(
         put_rows(sb, lb, tb, there, label as u16, 64, &mut rows);
         let p = fill_label(
             z,
+            ea,
             eb,
             wide,
             &rows,

@@ -4,7 +4,7 @@ use mathlib.Core.Bool.{Bool, true, false, So, not, _&&_, _||_, false≢true}
 use mathlib.Core.Path.{_≡_, refl, sym, ap, _∙_}
 use mathlib.Core.Logic.{_↔_, _⊎_, inl, inr, ⊎-elim}
 use mathlib.Core.List.{List}
-use Prim.Native.Nat.{ℕ, _+_, _^_, _≤_, _<_}
+use Prim.Native.Nat.{ℕ, _+_, _-_, _^_, _≤_, _<_}
 use native.Mathlib.Nat.{eq-or-lt-of-le}
 use native.Mathlib.Omega.{arith}
 use borrow.Author.Tests.{eqb-true, eq-eqb}
@@ -12,12 +12,12 @@ use lib.Bits.{bitAnd, bitOr}
 use lib.Dec.{eqb}
 use lib.ListN.{getD, set, length-set}
 use lib.Seq.{getD-set-same, getD-set-other}
-use Rattle.theory.specs.TestLaws.{never, le-or-lt, and-iff, or-iff, not-iff}
+use Rattle.theory.specs.TestLaws.{never, le-or-lt, any-iff, and-iff, or-iff, not-iff}
 use Rattle.words.specs.Words.{bit, Inside, IsLowest, IsWithout, IsMinus}
-use Rattle.words.specs.Laws.{bit-zero, bit-or, bit-with, bit-without, first-least}
+use Rattle.words.specs.Laws.{bit-zero, bit-or, bit-with, bit-without, bit-wordOf, first-least}
 use Rattle.search_tables.specs.declared.Grown.{Grown}
 use Rattle.search_tables.specs.Tips.{Has, Covered, TableRoom, Rowmates, Rest, Untouched, ClassPlace, Joined, Narrowed, Put, cutAs, Grew}
-use Rattle.search_links.specs.Sets.{seenAs}
+use Rattle.search_links.specs.Sets.{spread, StandsIn, seenAs}
 use Rattle.search_tables.specs.Laws.{equal-or, covered-by-has, covered-trans, untouched-refl, untouched-trans}
 
 -- the empty set has no cells
@@ -86,15 +86,15 @@ module _ (ls rs : List ℕ) (n cells w : ℕ) where
   pub rest-start : Rest ls rs n cells w cells
   rest-start = record { part = λ x i. i; others = λ x _ i. inl i }
 
-  pub rest-next : (left left′ e : ℕ) (r : Bool) → Rest ls rs n cells w left → e < n → (r ≡ true) ↔ Inside (getD rs e 0) w → r ≡ true
-      → IsMinus left (getD ls e 0) left′ → Rest ls rs n cells w left′
-  rest-next left left′ e r f b d t m = record {
-    part = λ x i. f .part x (minus-in left (getD ls e 0) left′ m x i .0);
+  pub rest-next : (left left′ e : ℕ) (r : Bool) → Rest ls rs n cells w left → 0 < e → e ≤ n → (r ≡ true) ↔ Inside (getD rs (e - 1) 0) w → r ≡ true
+      → IsMinus left (getD ls (e - 1) 0) left′ → Rest ls rs n cells w left′
+  rest-next left left′ e r f p b d t m = record {
+    part = λ x i. f .part x (minus-in left (getD ls (e - 1) 0) left′ m x i .0);
     others = λ x l i. ⊎-elim
         (λ j. ⊎-elim
         inl
-        (λ k. inr (record { word = getD rs e 0; has = record { class = e; below = b; cell = l; inside = k; word = refl }; inside = d .0 t }))
-        (minus-or left (getD ls e 0) left′ m x j)) inr (f .others x l i);
+        (λ k. inr (record { word = getD rs (e - 1) 0; has = record { class = e - 1; below = omega arith; cell = l; inside = k; word = refl }; inside = d .0 t }))
+        (minus-or left (getD ls (e - 1) 0) left′ m x j)) inr (f .others x l i);
   }
 
 -- ---- cells are put into class e, which then has the cells l
@@ -234,10 +234,26 @@ module _ (ls rs : List ℕ) (base n cells w : ℕ) where
       kept = λ y o h. ⊎-elim (turn-kept y o) inr (f .kept y o h);
     }
 
+-- ---- nodes and those that stand in for them
+module _ (own : List ℕ) (wide : Bool) (new seen more : ℕ) (ds : seen ≡ seenAs own wide new) (dm : more ≡ bitOr new seen) where
+  bit-both : (y : ℕ) → bit more y ≡ bit new y || bit seen y
+  bit-both y = ap (λ (v : ℕ). bit v y) dm ∙ bit-or new seen y
+
+  both-whole : (y : ℕ) → So (bit new y) → So (bit more y)
+  both-whole y i = bit-both y ∙ or-iff _ _ .1 (inl i)
+
+  both-sound : (y : ℕ) → So (bit more y) → (x : ℕ) × So (bit new x) × StandsIn own wide x y
+  unfolding seenAs spread
+  both-sound y i = ⊎-elim (λ j. (y, j, inl refl)) (λ j. stood wide refl (ap (λ (v : ℕ). bit v y) (sym ds) ∙ j)) (or-iff _ _ .0 (sym (bit-both y) ∙ i))
+    where
+      stood : (b : Bool) → wide ≡ b → So (bit (seenAs own b new) y) → (x : ℕ) × So (bit new x) × StandsIn own wide x y
+      stood true e j = let (l, (x, m, (p, q))) = simp (bit-wordOf, and-iff, any-iff) at j in (x, p, inr (e, q))
+      stood false e j = (y, j, inl refl)
+
 -- ---- tips are put into a table
-module _ (ls rs : List ℕ) (base n cells w : ℕ) (room : TableRoom ls rs n) (least : base ≤ n) (new : ℕ) (rest : Rest ls rs n cells w new) where
+module _ (own : List ℕ) (wide : Bool) (ls rs : List ℕ) (base n cells w : ℕ) (room : TableRoom ls rs n) (least : base ≤ n) (new : ℕ) (rest : Rest ls rs n cells w new) where
   -- all are covered
-  pub put-none : new ≡ 0 → (r : Grown) → r .count ≡ n → r .full ≡ false → Put ls rs base n cells w ls rs r
+  pub put-none : new ≡ 0 → (r : Grown) → r .count ≡ n → r .full ≡ false → Put own wide ls rs base n cells w ls rs r
   put-none e r dc df = record {
     room = rw dc room;
     low = untouched-refl base ls rs;
@@ -250,7 +266,7 @@ module _ (ls rs : List ℕ) (base n cells w : ℕ) (room : TableRoom ls rs n) (l
   }
 
   -- there is no room
-  pub put-full : (e : ℕ) → ClassPlace ls rs base n w e → e ≡ 64 → (r : Grown) → r .count ≡ n → r .full ≡ true → Put ls rs base n cells w ls rs r
+  pub put-full : (e : ℕ) → ClassPlace ls rs base n w e → e ≡ 64 → (r : Grown) → r .count ≡ n → r .full ≡ true → Put own wide ls rs base n cells w ls rs r
   put-full e p q r dc df = record {
     room = rw dc room;
     low = untouched-refl base ls rs;
@@ -263,43 +279,45 @@ module _ (ls rs : List ℕ) (base n cells w : ℕ) (room : TableRoom ls rs n) (l
   }
 
   -- the others are joined to a class, and taken out of the classes with wider sets
-  module _ (ls′ rs′ : List ℕ) (n′ : ℕ) (ls″ : List ℕ) (j : Joined ls rs base n new w ls′ rs′ n′) (f : Narrowed ls′ rs′ base n′ new w ls″) where
-    news : (y : ℕ) → y < 64 → So (bit new y) → Has ls″ rs′ n′ y w
+  module _ (seen more : ℕ) (ds : seen ≡ seenAs own wide new) (dm : more ≡ bitOr new seen)
+      (ls′ rs′ : List ℕ) (n′ : ℕ) (ls″ : List ℕ) (j : Joined ls rs base n more w ls′ rs′ n′) (f : Narrowed ls′ rs′ base n′ more w ls″) where
+    news : (y : ℕ) → y < 64 → So (bit more y) → Has ls″ rs′ n′ y w
     news y l i = ⊎-elim (λ h. h) (λ (_, _, q). absurd (q refl)) (f .kept y w (j .new y l i))
 
     keeps : (y o : ℕ) → Has ls rs n y o → Covered ls″ rs′ n′ y o
     keeps y o h =
         ⊎-elim (covered-by-has ls″ rs′ n′ y o) (λ (i, p, _). record { word = w; has = news y (h .cell) i; inside = p }) (f .kept y o (j .kept y o h))
 
-    pub put-done : (r : Grown) → r .count ≡ n′ → r .full ≡ false → Put ls rs base n cells w ls″ rs′ r
+    pub put-done : (r : Grown) → r .count ≡ n′ → r .full ≡ false → Put own wide ls rs base n cells w ls″ rs′ r
     put-done r dc df = record {
       room = rw dc (f .room);
       low = untouched-trans base ls rs ls′ rs′ (j .low) ls″ rs′ (f .low);
       least = omega (arith, j .least);
       few = omega (arith, j .few);
       full = λ t. absurd (false≢true (sym df ∙ t));
-      sound = λ y o h. ⊎-elim inl (λ (i, q). inr (rest .part y i, q)) (j .sound y o (f .sound y o (rw dc at h)));
+      sound = λ y o h.
+          ⊎-elim inl (λ (i, q). let (x, p, t) = both-sound own wide new seen more ds dm y i in inr (x, rest .part x p, t, q)) (j .sound y o (f .sound y o (rw dc at h)));
       kept = rw dc keeps;
       new = λ _ y l i. rw dc (⊎-elim
-          (λ i. covered-by-has ls″ rs′ n′ y w (news y l i))
+          (λ i. covered-by-has ls″ rs′ n′ y w (news y l (both-whole own wide new seen more ds dm y i)))
           (covered-trans ls rs n ls″ rs′ n′ keeps y w)
           (rest .others y l i));
     }
 
 -- ---- tips are put into a table, those of one row at once: of each node, it is still to come, or the table covers its tip
-pub record Growing (z ends : List ℕ) (wide : Bool) (ls₀ rs₀ : List ℕ) (base n cells s : ℕ) (ls rs : List ℕ) (count left : ℕ) : Type 0 where
+pub record Growing (z own ends : List ℕ) (wide : Bool) (ls₀ rs₀ : List ℕ) (base n cells s : ℕ) (ls rs : List ℕ) (count left : ℕ) : Type 0 where
   pub room : TableRoom ls rs count
   pub low : Untouched base ls₀ rs₀ ls rs
   pub least : base ≤ count
   pub many : (i : ℕ) → So (bit left i) → count ≤ n + i
   pub small : left < 2 ^ 64
-  pub sound : (y o : ℕ) → Has ls rs count y o → Has ls₀ rs₀ n y o ⊎ (So (bit cells y) × (cutAs ends wide z s y ≡ o))
+  pub sound : (y o : ℕ) → Has ls rs count y o → Has ls₀ rs₀ n y o ⊎ ((x : ℕ) × So (bit cells x) × StandsIn own wide x y × (cutAs ends wide z s x ≡ o))
   pub kept : (y o : ℕ) → Has ls₀ rs₀ n y o → Covered ls rs count y o
   pub part : (y : ℕ) → So (bit left y) → So (bit cells y)
   pub done : (y : ℕ) → y < 64 → So (bit cells y) → So (bit left y) ⊎ Covered ls rs count y (cutAs ends wide z s y)
 
-module _ (z ends : List ℕ) (wide : Bool) (ls₀ rs₀ : List ℕ) (base n cells s : ℕ) where
-  pub growing-start : TableRoom ls₀ rs₀ n → base ≤ n → cells < 2 ^ 64 → Growing z ends wide ls₀ rs₀ base n cells s ls₀ rs₀ n cells
+module _ (z own ends : List ℕ) (wide : Bool) (ls₀ rs₀ : List ℕ) (base n cells s : ℕ) where
+  pub growing-start : TableRoom ls₀ rs₀ n → base ≤ n → cells < 2 ^ 64 → Growing z own ends wide ls₀ rs₀ base n cells s ls₀ rs₀ n cells
   growing-start r b l = record {
     room = r;
     low = untouched-refl base ls₀ rs₀;
@@ -312,8 +330,8 @@ module _ (z ends : List ℕ) (wide : Bool) (ls₀ rs₀ : List ℕ) (base n cell
     done = λ y _ i. inl i;
   }
 
-  module _ (ls rs : List ℕ) (count left : ℕ) (g : Growing z ends wide ls₀ rs₀ base n cells s ls rs count left) where
-    pub growing-end : left ≡ 0 → (r : Grown) → r .count ≡ count → r .full ≡ false → Grew z ends wide ls₀ rs₀ base n cells s ls rs r
+  module _ (ls rs : List ℕ) (count left : ℕ) (g : Growing z own ends wide ls₀ rs₀ base n cells s ls rs count left) where
+    pub growing-end : left ≡ 0 → (r : Grown) → r .count ≡ count → r .full ≡ false → Grew z own ends wide ls₀ rs₀ base n cells s ls rs r
     growing-end e r dc df = record {
       room = rw dc (g .room);
       low = g .low;
@@ -325,13 +343,13 @@ module _ (z ends : List ℕ) (wide : Bool) (ls₀ rs₀ : List ℕ) (base n cell
     }
 
     module _ (y row mates cut w : ℕ) (ls′ rs′ : List ℕ) (p : Grown) (low : IsLowest left y) (dr : row ≡ getD z y 0)
-        (m : Rowmates z left row mates) (dc : cut ≡ bitAnd s row) (dw : w ≡ seenAs ends wide cut) (a : Put ls rs base count mates w ls′ rs′ p) where
+        (m : Rowmates z left row mates) (dc : cut ≡ bitAnd s row) (dw : w ≡ seenAs ends wide cut) (a : Put own wide ls rs base count mates w ls′ rs′ p) where
       set-is : w ≡ seenAs ends wide (bitAnd s row)
       set-is = dw ∙ ap (seenAs ends wide) dc
 
-      on-sound : (x o : ℕ) → Has ls′ rs′ (p .count) x o → Has ls₀ rs₀ n x o ⊎ (So (bit cells x) × (cutAs ends wide z s x ≡ o))
+      on-sound : (x o : ℕ) → Has ls′ rs′ (p .count) x o → Has ls₀ rs₀ n x o ⊎ ((t : ℕ) × So (bit cells t) × StandsIn own wide t x × (cutAs ends wide z s t ≡ o))
       on-sound x o h =
-          ⊎-elim (g .sound x o) (λ (i, q). let (j, d) = m .sound x i in inr (g .part x j, ap (λ (r : ℕ). seenAs ends wide (bitAnd s r)) d ∙ sym set-is ∙ sym q)) (a .sound x o h)
+          ⊎-elim (g .sound x o) (λ (t, i, b, q). let (j, d) = m .sound t i in inr (t, g .part t j, b, ap (λ (r : ℕ). seenAs ends wide (bitAnd s r)) d ∙ sym set-is ∙ sym q)) (a .sound x o h)
 
       on-kept : (x o : ℕ) → Has ls₀ rs₀ n x o → Covered ls′ rs′ (p .count) x o
       on-kept x o h = covered-trans ls rs count ls′ rs′ (p .count) (a .kept) x o (g .kept x o h)
@@ -339,7 +357,7 @@ module _ (z ends : List ℕ) (wide : Bool) (ls₀ rs₀ : List ℕ) (base n cell
       on-low : Untouched base ls₀ rs₀ ls′ rs′
       on-low = untouched-trans base ls₀ rs₀ ls rs (g .low) ls′ rs′ (a .low)
 
-      pub growing-full : p .full ≡ true → (r : Grown) → r .count ≡ count → r .full ≡ true → Grew z ends wide ls₀ rs₀ base n cells s ls′ rs′ r
+      pub growing-full : p .full ≡ true → (r : Grown) → r .count ≡ count → r .full ≡ true → Grew z own ends wide ls₀ rs₀ base n cells s ls′ rs′ r
       growing-full t r dn df =
           let q : r .count ≡ p .count = dn ∙ sym (a .full t .1) in
           record {
@@ -368,7 +386,7 @@ module _ (z ends : List ℕ) (wide : Bool) (ls₀ rs₀ : List ℕ) (base n cell
             let (j, k) = minus-in left mates left′ off i e in
             ⊎-elim (λ q. absurd (k (rw (← q) mates-there))) (λ l. omega (arith, a .few, g .many y (low .there))) (eq-or-lt-of-le (least i j))
 
-        pub growing-next : p .full ≡ false → Growing z ends wide ls₀ rs₀ base n cells s ls′ rs′ (p .count) left′
+        pub growing-next : p .full ≡ false → Growing z own ends wide ls₀ rs₀ base n cells s ls′ rs′ (p .count) left′
         growing-next t = record {
           room = a .room;
           low = on-low;

@@ -8,7 +8,7 @@ use Prim.Native.Nat.{ℕ, _+_, _≤_, _<_}
 use lib.Bits.{bitAnd}
 use lib.ListN.{length, getD}
 use Rattle.words.specs.Words.{bit, Inside}
-use Rattle.search_links.specs.Sets.{seenAs}
+use Rattle.search_links.specs.Sets.{StandsIn, seenAs}
 use Rattle.search_tables.specs.declared.Grown.{Grown}
 
 -- The table has the tip (x, w).
@@ -69,15 +69,15 @@ pub record Narrowed (ls rs : List ℕ) (base n cells w : ℕ) (ls′ : List ℕ)
   pub sound : (y o : ℕ) → Has ls′ rs n y o → Has ls rs n y o
   pub kept : (y o : ℕ) → Has ls rs n y o → Has ls′ rs n y o ⊎ (So (bit cells y) × Inside w o × (o ≡ w → ⊥))
 
--- The table has nothing but what it had and tips of the nodes with the set w, these from class `base` on. It covers what it had, and unless it was full,
--- all those tips.
-pub record Put (ls rs : List ℕ) (base n cells w : ℕ) (ls′ rs′ : List ℕ) (g : Grown) : Type 0 where
+-- The table has nothing but what it had and tips of the nodes, or of nodes that stand in for them, with the set w, these from class `base` on. It covers
+-- what it had, and unless it was full, the tips of all the nodes.
+pub record Put (own : List ℕ) (wide : Bool) (ls rs : List ℕ) (base n cells w : ℕ) (ls′ rs′ : List ℕ) (g : Grown) : Type 0 where
   pub room : TableRoom ls′ rs′ (g .count)
   pub low : Untouched base ls rs ls′ rs′
   pub least : base ≤ g .count
   pub few : g .count ≤ n + 1
   pub full : g .full ≡ true → (n ≡ 64) × (g .count ≡ n)
-  pub sound : (y o : ℕ) → Has ls′ rs′ (g .count) y o → Has ls rs n y o ⊎ (So (bit cells y) × (o ≡ w))
+  pub sound : (y o : ℕ) → Has ls′ rs′ (g .count) y o → Has ls rs n y o ⊎ ((x : ℕ) × So (bit cells x) × StandsIn own wide x y × (o ≡ w))
   pub kept : (y o : ℕ) → Has ls rs n y o → Covered ls′ rs′ (g .count) y o
   pub new : g .full ≡ false → (y : ℕ) → y < 64 → So (bit cells y) → Covered ls′ rs′ (g .count) y w
 
@@ -85,13 +85,13 @@ pub record Put (ls rs : List ℕ) (base n cells w : ℕ) (ls′ rs′ : List ℕ
 abbrev pub cutAs : List ℕ → Bool → List ℕ → ℕ → ℕ → ℕ
 cutAs ends wide z s y = seenAs ends wide (bitAnd s (getD z y 0))
 
--- The table has nothing but what it had and such tips of the nodes of a set, these from class `base` on. It covers what it had, and unless it was full,
--- all those tips.
-pub record Grew (z ends : List ℕ) (wide : Bool) (ls rs : List ℕ) (base n cells s : ℕ) (ls′ rs′ : List ℕ) (g : Grown) : Type 0 where
+-- The table has nothing but what it had and such tips of the nodes of a set, or of nodes that stand in for them, these from class `base` on. It covers what
+-- it had, and unless it was full, the tips of all nodes of the set.
+pub record Grew (z own ends : List ℕ) (wide : Bool) (ls rs : List ℕ) (base n cells s : ℕ) (ls′ rs′ : List ℕ) (g : Grown) : Type 0 where
   pub room : TableRoom ls′ rs′ (g .count)
   pub low : Untouched base ls rs ls′ rs′
   pub least : base ≤ g .count
   pub full : g .full ≡ true → 0 < n
-  pub sound : (y o : ℕ) → Has ls′ rs′ (g .count) y o → Has ls rs n y o ⊎ (So (bit cells y) × (cutAs ends wide z s y ≡ o))
+  pub sound : (y o : ℕ) → Has ls′ rs′ (g .count) y o → Has ls rs n y o ⊎ ((x : ℕ) × So (bit cells x) × StandsIn own wide x y × (cutAs ends wide z s x ≡ o))
   pub kept : (y o : ℕ) → Has ls rs n y o → Covered ls′ rs′ (g .count) y o
   pub whole : g .full ≡ false → (y : ℕ) → y < 64 → So (bit cells y) → Covered ls′ rs′ (g .count) y (cutAs ends wide z s y)

@@ -20,21 +20,21 @@ fn rowmates(z: &[u64; 64], cells: u64, row: u64) -> u64
     out
 }
 
-// The cells of a set that are in no class with a set inside of w.
+// The cells of a set that are in no class with a set inside of w. The last classes, which hold what was put in last, are asked first.
 fn uncovered(lefts: &[u64; 64], rights: &[u64; 64], n: usize, cells: u64, w: u64) -> u64
     requires { ⌜ n ≤ 64 ⌝ }
     ensures { λ r. ⌜ Rest (now (lefts .entry)) (now (rights .entry)) n cells w r ⌝ }
 {
     let mut left = cells;
-    let mut e = 0;
-    while e < n {
+    let mut e = n;
+    while 0 < e {
+        e -= 1;
         if words::inside(rights[e], w) {
             left = words::minus(left, lefts[e]);
             if left == 0 {
                 return left;
             }
         }
-        e += 1;
     }
     left
 }
@@ -102,9 +102,11 @@ pub struct Grown {
     pub full: bool,
 }
 
-// Puts the tips of the cells with the set w into a table of n classes, but for those that it covers, if there is room. The classes below `base` stay as
-// they are.
-pub fn put(
+// Puts the tips of the cells with the set w into a table of n classes, but for those that it covers, if there is room: as they are or, if they are widened,
+// those of all cells that pass same with one of them, so that the table covers more of what comes. The classes below `base` stay as they are.
+fn put(
+    own: &[u64; 128],
+    wide: bool,
     lefts: &mut [u64; 64],
     rights: &mut [u64; 64],
     base: usize,
@@ -113,7 +115,7 @@ pub fn put(
     w: u64,
 ) -> Grown
     requires { ⌜ TableRoom (now lefts) (now rights) n × (base ≤ n) ⌝ }
-    ensures { λ r. ⌜ Put (now (lefts .entry)) (now (rights .entry)) base n cells w (now (lefts .exit)) (now (rights .exit)) r ⌝ }
+    ensures { λ r. ⌜ Put (now (own .entry)) wide (now (lefts .entry)) (now (rights .entry)) base n cells w (now (lefts .exit)) (now (rights .exit)) r ⌝ }
 {
     let new = uncovered(lefts, rights, n, cells, w);
     if new == 0 {
@@ -129,15 +131,17 @@ pub fn put(
             full: true,
         };
     }
-    let count = join(lefts, rights, base, n, e, new, w);
-    narrow(lefts, rights, base, count, new, w);
+    let more = words::union(new, search_links::seen_as(own, wide, new));
+    let count = join(lefts, rights, base, n, e, more, w);
+    narrow(lefts, rights, base, count, more, w);
     Grown { count, full: false }
 }
 
-// Puts the tips of the cells y of a set into a table, as long as there is room: s cut with row y of z, as it is or widened. Those with the same row are
+// Puts the tips of the cells y of a set into a table, as long as there is room: s cut with row y of z, as they are or widened. Those with the same row are
 // put at once. The classes below `base` stay as they are.
 pub fn grow(
     z: &[u64; 64],
+    own: &[u64; 128],
     ends: &[u64; 128],
     wide: bool,
     lefts: &mut [u64; 64],
@@ -148,7 +152,7 @@ pub fn grow(
     s: u64,
 ) -> Grown
     requires { ⌜ TableRoom (now lefts) (now rights) n × (base ≤ n) ⌝ }
-    ensures { λ r. ⌜ Grew (now (z .entry)) (now (ends .entry)) wide (now (lefts .entry)) (now (rights .entry)) base n cells s (now (lefts .exit)) (now (rights .exit)) r ⌝ }
+    ensures { λ r. ⌜ Grew (now (z .entry)) (now (own .entry)) (now (ends .entry)) wide (now (lefts .entry)) (now (rights .entry)) base n cells s (now (lefts .exit)) (now (rights .exit)) r ⌝ }
 {
     let mut count = n;
     let mut left = cells;
@@ -157,7 +161,7 @@ pub fn grow(
         let row = z[y as usize];
         let mates = rowmates(z, left, row);
         let set = search_links::seen_as(ends, wide, words::meet(s, row));
-        let p = put(lefts, rights, base, count, mates, set);
+        let p = put(own, wide, lefts, rights, base, count, mates, set);
         if p.full {
             return Grown { count, full: true };
         }

@@ -29,7 +29,7 @@ sub-pair-at c = omega arith
 pair-at-requires : tie.Need-pair-at-requires Inv-loop μ-loop
 pair-at-requires c κs =
     let inv = c .before .before .loop .inv in
-    (asked _ _ _ _ _ _ (inv .0) (omega arith) (omega arith), omega arith, omega arith, inv .3, inv .4, inv .5, inv .6, settled-at _ _ _ _ _ _ _ _ _ _ (omega arith) (inv .7))
+    (asked _ _ _ _ _ _ _ _ (inv .0) (inv .3) (inv .4) (omega arith) (omega arith), omega arith, omega arith, inv .5, inv .6, settled-at _ _ _ _ _ _ _ _ _ _ (omega arith) (inv .7))
 
 returns : tie.Need-returns Inv-loop μ-loop
 returns c = lengths-found _ _ _ _ _ _ _ _ _ _ (c .before .before .before .before .before .loop .inv .10) (c .before .before .before .before .before .loop .inv .8) (c .before .before .before .before .loop-test .taken) _ (c .before .before .pair-at .ensures) (c .if2 .taken)

@@ -45,7 +45,7 @@ add-loop c = omega arith
 ready-requires : tie.Need-ready-requires Inv-loop μ-loop
 ready-requires c κs =
     let inv = c .before .before .before .loop .inv in
-    (asked _ _ _ _ _ _ (inv .0) (inv .1) (inv .1), inv .4, inv .5, inv .6)
+    (asked _ _ _ _ _ _ _ _ (inv .0) (inv .3) (inv .4) (inv .1) (inv .1), inv .5, inv .6)
 
 no-pair-requires : tie.Need-no-pair-requires Inv-loop μ-loop
 no-pair-requires c κs = search needs

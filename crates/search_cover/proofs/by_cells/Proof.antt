@@ -10,7 +10,7 @@ use Rattle.search_cover.proofs.by_cells.Statement.{statement}
 use Rattle.search_cover.proofs.by_cells.Tie as tie
 
 abbrev Inv-loop : tie.InvT-loop
-Inv-loop sa la ta ea sb lb tb eb z x y c lefts₀ rights₀ k₀ lefts rights k = Asked (viewOf sa la ta) (viewOf sb lb tb) x y c c × (k ≤ c) × Reached (viewOf sa la ta) (viewOf sb lb tb) z x y k lefts rights
+Inv-loop sa la ta ea sb lb tb eb z x y c lefts₀ rights₀ k₀ lefts rights k = Asked (viewOf sa la ta) (viewOf sb lb tb) ea eb x y c c × (k ≤ c) × Reached (viewOf sa la ta) (viewOf sb lb tb) z x y k lefts rights
 
 abbrev μ-loop : tie.MeasureT-loop
 μ-loop sa la ta ea sb lb tb eb z x y c lefts₀ rights₀ k₀ lefts rights k = c - k

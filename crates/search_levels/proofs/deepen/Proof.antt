@@ -41,7 +41,7 @@ gather-requires c κs =
 returns : tie.Need-returns
 returns c =
     let start = c .before .before .before .before .before .before .before .before .before .before .before .before .before .before .pre in
-    (became-full _ _ _ _ _ _ _ (start .2) _ _ (c .before .before .before .before .before .before .before .before .last-exact .ensures) _ _ _ (c .before .gather .ensures), omega arith)
+    (became-full _ _ _ _ _ _ _ _ (start .2) _ _ (c .before .before .before .before .before .before .before .before .last-exact .ensures) _ _ _ (c .before .gather .ensures), omega arith)
 
 cast-ends : tie.Need-cast-ends
 cast-ends c = search needs
@@ -52,8 +52,8 @@ add-ends c = search needs
 array-write-ends : tie.Need-array-write-ends
 array-write-ends c = search needs
 
-add-t30 : tie.Need-add-t30
-add-t30 c = search needs
+add-t31 : tie.Need-add-t31
+add-t31 c = search needs
 
 exact-after-requires : tie.Need-exact-after-requires
 exact-after-requires c κs = search needs
@@ -61,7 +61,7 @@ exact-after-requires c κs = search needs
 returns-2 : tie.Need-returns-2
 returns-2 c =
     let start = c .before .before .before .before .before .before .before .before .before .before .before .before .before .before .before .before .before .pre in
-    (became-next _ _ _ _ _ _ _ (start .2) _ _ (c .before .before .before .before .before .before .before .before .before .before .before .last-exact .ensures) _ _ _ (c .before .before .before .before .gather .ensures) (start .3) (start .4) (c .before .before .before .if1 .left) _ refl refl (c .exact-after .ensures) refl, omega arith)
+    (became-next _ _ _ _ _ _ _ _ (start .2) _ _ (c .before .before .before .before .before .before .before .before .before .before .before .last-exact .ensures) _ _ _ (c .before .before .before .before .gather .ensures) (start .3) (start .4) (c .before .before .before .if1 .left) _ refl refl (c .exact-after .ensures) refl, omega arith)
 
 pub deepen-spec : {M : Type 1} → statement M
 deepen-spec =
@@ -81,6 +81,6 @@ deepen-spec =
     cast-ends
     add-ends
     array-write-ends
-    add-t30
+    add-t31
     exact-after-requires
     returns-2)

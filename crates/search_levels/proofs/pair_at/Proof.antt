@@ -28,12 +28,12 @@ cast-qn c = search needs
 two-tips-requires : tie.Need-two-tips-requires
 two-tips-requires c κs =
     let start = c .before .before .before .pre in
-    (end-few _ _ _ (start .5) _ (omega (arith, start .1)) _ refl, end-few _ _ _ (start .5) _ (c .before .if1 .left) _ refl)
+    (end-few _ _ _ (start .3) _ (omega (arith, start .1)) _ refl, end-few _ _ _ (start .3) _ (c .before .if1 .left) _ refl, start .0 .own, start .0 .other)
 
 first-pair-requires : tie.Need-first-pair-requires
 first-pair-requires c κs =
     let start = c .before .before .before .before .before .pre in
-    (start .0, end-few _ _ _ (start .5) _ (c .before .before .before .if1 .left) _ refl, omega arith, level-ahead _ _ _ _ _ _ _ _ _ _ (start .0 .left .opened) (start .0 .cell) (start .3) (start .4) (start .1) (start .2) (start .7) _ _ _ (start .6) (c .before .before .before .if1 .left) _ _ refl refl _ (c .before .two-tips .ensures) (c .if2 .taken), level-stands _ _ _ _ _ _ _ _ _ _ (start .0 .left .opened) (start .0 .cell) (start .3) (start .4) (start .1) (start .2) (start .7) _ _ _ (start .6) (c .before .before .before .if1 .left) _ refl)
+    (start .0, end-few _ _ _ (start .3) _ (c .before .before .before .if1 .left) _ refl, omega arith, level-ahead _ _ _ _ _ _ _ _ _ _ (start .0 .left .opened) (start .0 .cell) (start .0 .own) (start .0 .other) (start .1) (start .2) (start .5) _ _ _ (start .4) (c .before .before .before .if1 .left) _ _ refl refl _ (c .before .two-tips .ensures) (c .if2 .taken), level-stands _ _ _ _ _ _ _ _ _ _ (start .0 .left .opened) (start .0 .cell) (start .0 .own) (start .0 .other) (start .1) (start .2) (start .5) _ _ _ (start .4) (c .before .before .before .if1 .left) _ refl)
 
 returns-2 : tie.Need-returns-2
 returns-2 c = search needs
@@ -44,7 +44,7 @@ no-pair-requires c κs = search needs
 returns-3 : tie.Need-returns-3
 returns-3 c =
     let start = c .before .before .before .before .before .before .pre in
-    level-none _ _ _ _ _ _ _ _ _ _ (start .0 .left .opened) (start .0 .cell) (start .3) (start .4) (start .1) (start .2) (start .7) _ _ _ (start .6) (c .before .before .before .before .if1 .left) _ _ refl refl _ (c .before .before .two-tips .ensures) (c .before .if2 .left) _ (c .no-pair .ensures)
+    level-none _ _ _ _ _ _ _ _ _ _ (start .0 .left .opened) (start .0 .cell) (start .0 .own) (start .0 .other) (start .1) (start .2) (start .5) _ _ _ (start .4) (c .before .before .before .before .if1 .left) _ _ refl refl _ (c .before .before .two-tips .ensures) (c .before .if2 .left) _ (c .no-pair .ensures)
 
 pub pair-at-spec : {M : Type 1} → statement M
 pair-at-spec =

@@ -9,10 +9,10 @@ use Rattle.search_levels.proofs.reach.Statement.{statement}
 use Rattle.search_levels.proofs.reach.Tie as tie
 
 abbrev Inv-loop : tie.InvT-loop
-Inv-loop sa la ta sb lb tb eb z lefts₀ rights₀ n c small at₀ lefts rights at = Ordered (viewOf sa la ta) × Ordered (viewOf sb lb tb) × (n ≤ 4) × Became (viewOf sa la ta) (viewOf sb lb tb) z eb lefts₀ rights₀ at₀ lefts rights at
+Inv-loop sa la ta ea sb lb tb eb z lefts₀ rights₀ n c small at₀ lefts rights at = Ordered (viewOf sa la ta) × Ordered (viewOf sb lb tb) × (n ≤ 4) × Became (viewOf sa la ta) (viewOf sb lb tb) z ea eb lefts₀ rights₀ at₀ lefts rights at
 
 abbrev μ-loop : tie.MeasureT-loop
-μ-loop sa la ta sb lb tb eb z lefts₀ rights₀ n c small at₀ lefts rights at = n - at .known
+μ-loop sa la ta ea sb lb tb eb z lefts₀ rights₀ n c small at₀ lefts rights at = n - at .known
 
 loop-holds : tie.Need-loop-holds Inv-loop μ-loop
 loop-holds c = (search needs, search needs, search needs, search became-same)
@@ -24,13 +24,13 @@ deepen-requires : tie.Need-deepen-requires Inv-loop μ-loop
 deepen-requires c κs = (search needs, search needs, c .before .before .before .before .before .loop .inv .3 .laid, omega arith, c .before .before .widens .ensures)
 
 returns : tie.Need-returns Inv-loop μ-loop
-returns c = became-trans _ _ _ _ _ _ _ _ _ _ (c .before .before .before .before .before .before .before .before .loop .inv .3) _ _ _ (c .before .before .deepen .ensures .0)
+returns c = became-trans _ _ _ _ _ _ _ _ _ _ _ (c .before .before .before .before .before .before .before .before .loop .inv .3) _ _ _ (c .before .before .deepen .ensures .0)
 
 loop-less : tie.Need-loop-less Inv-loop μ-loop
 loop-less c = fewer-left _ _ _ (c .before .before .deepen .ensures .0 .onward) (c .if2 .left) (c .before .before .before .before .before .before .if1 .taken)
 
 loop-again : tie.Need-loop-again Inv-loop μ-loop
-loop-again c = (search needs, search needs, search needs, became-trans _ _ _ _ _ _ _ _ _ _ (c .before .before .before .before .before .before .before .before .loop .inv .3) _ _ _ (c .before .before .deepen .ensures .0))
+loop-again c = (search needs, search needs, search needs, became-trans _ _ _ _ _ _ _ _ _ _ _ (c .before .before .before .before .before .before .before .before .loop .inv .3) _ _ _ (c .before .before .deepen .ensures .0))
 
 returns-2 : tie.Need-returns-2 Inv-loop μ-loop
 returns-2 c = c .before .before .loop .inv .3

@@ -17,10 +17,10 @@ returns-2 c = search needs
 reach-requires : tie.Need-reach-requires
 reach-requires c κs =
     let start = c .before .before .before .before .before .pre in
-    (start .0 .left, start .0 .right, start .2, ⊎-elim (λ w. omega (arith, w .1, c .before .before .before .before .if1 .left)) (λ w. omega (arith, w .1, start .0 .first)) (c .before .before .if3 .came))
+    (start .0 .left, start .0 .right, start .1, ⊎-elim (λ w. omega (arith, w .1, c .before .before .before .before .if1 .left)) (λ w. omega (arith, w .1, start .0 .first)) (c .before .before .if3 .came))
 
 returns-3 : tie.Need-returns-3
-returns-3 c = (c .reach .ensures .laid, c .reach .ensures .still _ _ _ _ (c .before .before .before .before .before .before .pre .3))
+returns-3 c = (c .reach .ensures .laid, c .reach .ensures .still _ _ _ (c .before .before .before .before .before .before .pre .2))
 
 pub ready-spec : {M : Type 1} → statement M
 ready-spec = tie.close (tie.spec returns all-levels-requires returns-2 reach-requires returns-3)

@@ -34,7 +34,7 @@ abbrev given : ℕ → seek-lts.Claims
 given t = (two-tips-reads.Asked, two-tips-reads.Learnt, seek-below t, seek.Post, fill-reads.Asked, fill-reads.Learnt)
 
 abbrev seek-Inv-loop : seek-lts.InvT-loop
-seek-Inv-loop sa la ta ea sb lb tb eb z pl pr pn more ql qr qn rest turned l₀ r₀ at₀ l r at = Seeking (viewOf sa la ta) (viewOf sb lb tb) pn qn × (more ≤ 4) × (rest ≤ 4) × (turned ≡ true → rest ≡ 0) × (more ≡ 0 → ⊥) × (at ≤ lastPlace) × TableRoom l r 0 × Below (viewOf sa la ta) (viewOf sb lb tb) z ea eb turned ql qr qn rest pl pr pn (more - 1) at
+seek-Inv-loop sa la ta ea sb lb tb eb z pl pr pn more ql qr qn rest turned l₀ r₀ at₀ l r at = Seeking (viewOf sa la ta) (viewOf sb lb tb) ea eb pn qn × (more ≤ 4) × (rest ≤ 4) × (turned ≡ true → rest ≡ 0) × (more ≡ 0 → ⊥) × (at ≤ lastPlace) × TableRoom l r 0 × Below (viewOf sa la ta) (viewOf sb lb tb) z ea eb turned ql qr qn rest pl pr pn (more - 1) at
 
 abbrev seek-μ-loop : seek-lts.MeasureT-loop
 seek-μ-loop sa la ta ea sb lb tb eb z pl pr pn more ql qr qn rest turned l₀ r₀ at₀ l r at = lastPlace - at
@@ -46,7 +46,7 @@ seek-returns : (t : ℕ) → seek-lts.Need-returns (given t) (seek-at t) seek.Po
 seek-returns t c = tips-searched _ _ _ _ _ _ _ _ _ _ _ _ (c .two-tips .ensures) _ (c .before .if2 .taken) _ _ (c .before .before .if1 .taken) (c .before .before .before .pre .1 .3 (c .before .if2 .taken))
 
 seek-seek-requires : (t : ℕ) → seek-lts.Need-seek-requires (given t) (seek-at t) seek.Post seek-Inv-loop seek-μ-loop
-seek-seek-requires t c κs = (turn-less _ _ _ _ (c .before .before .pre .0) (c .if2 .left), (record { left = search needs; right = search needs; firsts = search needs; seconds = search needs }, search needs, omega arith, λ _. refl))
+seek-seek-requires t c κs = (turn-less _ _ _ _ (c .before .before .pre .0) (c .if2 .left), (record { left = search needs; right = search needs; own = search needs; other = search needs; firsts = search needs; seconds = search needs }, search needs, omega arith, λ _. refl))
 
 seek-returns-2 : (t : ℕ) → seek-lts.Need-returns-2 (given t) (seek-at t) seek.Post seek-Inv-loop seek-μ-loop
 seek-returns-2 t c = turn-searched _ _ _ _ _ _ _ _ _ _ _ _ _ (c .seek .ensures) _ (c .before .if2 .left) _ (c .before .before .if1 .taken)
@@ -61,13 +61,13 @@ seek-sub-seek : (t : ℕ) → seek-lts.Need-sub-seek (given t) (seek-at t) seek.
 seek-sub-seek t c = search needs
 
 seek-seek-requires-2 : (t : ℕ) → seek-lts.Need-seek-requires-2 (given t) (seek-at t) seek.Post seek-Inv-loop seek-μ-loop
-seek-seek-requires-2 t c κs = (link-less _ _ _ _ (c .before .before .before .before .before .before .before .before .pre .0) (c .before .before .before .before .before .before .loop .inv .4), (record { left = search needs; right = search needs; firsts = search needs; seconds = search needs }, omega arith, search needs, search needs))
+seek-seek-requires-2 t c κs = (link-less _ _ _ _ (c .before .before .before .before .before .before .before .before .pre .0) (c .before .before .before .before .before .before .loop .inv .4), (record { left = search needs; right = search needs; own = search needs; other = search needs; firsts = search needs; seconds = search needs }, omega arith, search needs, search needs))
 
 seek-returns-3 : (t : ℕ) → seek-lts.Need-returns-3 (given t) (seek-at t) seek.Post seek-Inv-loop seek-μ-loop
 seek-returns-3 t c = below-found _ _ _ _ _ _ _ _ _ _ _ _ _ _ _ _ _ _ _ _ _ (c .before .before .before .before .fill .ensures) (c .before .seek2 .ensures) (c .if3 .taken) (c .before .before .before .before .before .before .before .before .loop .inv .4) _ refl
 
 seek-loop-less : (t : ℕ) → seek-lts.Need-loop-less (given t) (seek-at t) seek.Post seek-Inv-loop seek-μ-loop
-seek-loop-less t c = omega (arith, part-further _ _ _ _ _ _ _ _ _ _ _ _ _ _ (c .before .before .before .before .fill .ensures) (c .before .before .before .before .before .before .before .loop-test .taken))
+seek-loop-less t c = omega (arith, part-further _ _ _ _ _ _ _ _ _ _ _ _ _ _ _ (c .before .before .before .before .fill .ensures) (c .before .before .before .before .before .before .before .loop-test .taken))
 
 seek-loop-again : (t : ℕ) → seek-lts.Need-loop-again (given t) (seek-at t) seek.Post seek-Inv-loop seek-μ-loop
 seek-loop-again t c = (search needs, search needs, search needs, search needs, search needs, search needs, record { left = c .before .before .before .before .fill .ensures .room .left; right = c .before .before .before .before .fill .ensures .room .right; few = omega arith }, below-next _ _ _ _ _ _ _ _ _ _ _ _ _ _ _ _ _ _ _ _ _ (c .before .before .before .before .fill .ensures) (c .before .seek2 .ensures) (c .if3 .left) (c .before .before .before .before .before .before .before .before .loop .inv .7))

@@ -14,7 +14,7 @@ only-requires c κs = search needs
 first-path-requires : tie.Need-first-path-requires
 first-path-requires c κs =
     let start = c .before .pre in
-    (record { left = start .0 .left; right = start .0 .right; firsts = omega arith; seconds = start .1 }, start .0 .cell, start .0 .first, start .2, (λ e. absurd (false≢true e)), rw (c .only .ensures) (start .3))
+    (record { left = start .0 .left; right = start .0 .right; own = start .0 .own; other = start .0 .other; firsts = omega arith; seconds = start .1 }, start .0 .cell, start .0 .first, start .2, (λ e. absurd (false≢true e)), rw (c .only .ensures) (start .3))
 
 only-requires-2 : tie.Need-only-requires-2
 only-requires-2 c κs = search needs
@@ -28,7 +28,7 @@ array-write-r c = search needs
 first-path-requires-2 : tie.Need-first-path-requires-2
 first-path-requires-2 c κs =
     let start = c .before .before .before .before .before .pre in
-    (record { left = start .0 .left; right = start .0 .right; firsts = omega arith; seconds = omega arith }, start .0 .cell, start .0 .second, omega arith, (λ _. refl), second-ahead _ _ _ _ _ _ _ _ _ _ _ _ _ (start .4) _ (c .before .before .before .before .only .ensures) _ (c .before .before .before .first-path .ensures) (replicate 64 0) (replicate 64 0) refl refl _ (c .before .before .only2 .ensures) (start .0 .first))
+    (record { left = start .0 .left; right = start .0 .right; own = start .0 .own; other = start .0 .other; firsts = omega arith; seconds = omega arith }, start .0 .cell, start .0 .second, omega arith, (λ _. refl), second-ahead _ _ _ _ _ _ _ _ _ _ _ _ _ (start .4) _ (c .before .before .before .before .only .ensures) _ (c .before .before .before .first-path .ensures) (replicate 64 0) (replicate 64 0) refl refl _ (c .before .before .only2 .ensures) (start .0 .first))
 
 kind-of-requires : tie.Need-kind-of-requires
 kind-of-requires c κs = search needs

@@ -13,7 +13,7 @@ use Rattle.search_pairs.proofs.next_link.Statement.{statement}
 use Rattle.search_pairs.proofs.next_link.Tie as tie
 
 abbrev Inv-loop : tie.InvT-loop
-Inv-loop sa la ta ea sb lb tb eb z x w more ql qr qn rest turned until k₀ k = Seeking (viewOf sa la ta) (viewOf sb lb tb) 1 qn × (x < 64) × (more < 4) × (rest ≤ 4) × (turned ≡ true → rest ≡ 0) × (until ≡ getD sa (x + 1) 0) × (until ≤ 512) × (getD sa x 0 ≤ k) × (k ≤ 512) × Ahead (viewOf sa la ta) (viewOf sb lb tb) z ea eb turned x w (more + 1) ql qr qn rest × LinksTo (viewOf sa la ta) (viewOf sb lb tb) z ea eb turned ql qr qn rest x w more k
+Inv-loop sa la ta ea sb lb tb eb z x w more ql qr qn rest turned until k₀ k = Seeking (viewOf sa la ta) (viewOf sb lb tb) ea eb 1 qn × (x < 64) × (more < 4) × (rest ≤ 4) × (turned ≡ true → rest ≡ 0) × (until ≡ getD sa (x + 1) 0) × (until ≤ 512) × (getD sa x 0 ≤ k) × (k ≤ 512) × Ahead (viewOf sa la ta) (viewOf sb lb tb) z ea eb turned x w (more + 1) ql qr qn rest × LinksTo (viewOf sa la ta) (viewOf sb lb tb) z ea eb turned ql qr qn rest x w more k
 
 abbrev μ-loop : tie.MeasureT-loop
 μ-loop sa la ta ea sb lb tb eb z x w more ql qr qn rest turned until k₀ k = until - k

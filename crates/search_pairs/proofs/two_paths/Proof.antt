@@ -23,7 +23,7 @@ array-write-r c = search needs
 leads-on-requires : tie.Need-leads-on-requires
 leads-on-requires c κs =
     let start = c .before .before .before .before .pre in
-    (record { left = start .left; right = start .right; firsts = omega arith; seconds = omega arith }, start .cell, start .first, start .second, (λ e. absurd (false≢true e)))
+    (record { left = start .left; right = start .right; own = start .own; other = start .other; firsts = omega arith; seconds = omega arith }, start .cell, start .first, start .second, (λ e. absurd (false≢true e)))
 
 first-pair-requires : tie.Need-first-pair-requires
 first-pair-requires c κs =

@@ -6,10 +6,10 @@ use Rattle.search_steps.proofs.fill_label.Statement.{statement}
 use Rattle.search_steps.proofs.fill_label.Tie as tie
 
 abbrev Inv-loop : tie.InvT-loop
-Inv-loop z eb wide rows lefts rights n from ends₀ sets₀ base count total₀ e₀ ends sets total e = (n ≤ 64) × Stretching z eb wide rows lefts rights n from ends₀ sets₀ base count ends sets total e
+Inv-loop z ea eb wide rows lefts rights n from ends₀ sets₀ base count total₀ e₀ ends sets total e = (n ≤ 64) × Stretching z ea eb wide rows lefts rights n from ends₀ sets₀ base count ends sets total e
 
 abbrev μ-loop : tie.MeasureT-loop
-μ-loop z eb wide rows lefts rights n from ends₀ sets₀ base count total₀ e₀ ends sets total e = n - e
+μ-loop z ea eb wide rows lefts rights n from ends₀ sets₀ base count total₀ e₀ ends sets total e = n - e
 
 loop-holds : tie.Need-loop-holds Inv-loop μ-loop
 loop-holds c = (search needs, search stretching-start)
@@ -36,7 +36,7 @@ grow-requires : tie.Need-grow-requires Inv-loop μ-loop
 grow-requires c κs = search needs
 
 returns : tie.Need-returns Inv-loop μ-loop
-returns c = stretching-full _ _ _ _ _ _ _ _ _ _ _ _ _ _ _ _ (c .before .before .before .before .before .before .before .before .before .loop .inv .1) _ _ (c .before .before .before .before .before .before .passing .ensures) (c .before .before .before .before .passing2 .ensures) (c .before .before .before .before .before .before .before .before .loop-test .taken) _ _ _ (c .before .grow .ensures) (c .if1 .taken) _ refl refl refl
+returns c = stretching-full _ _ _ _ _ _ _ _ _ _ _ _ _ _ _ _ _ (c .before .before .before .before .before .before .before .before .before .loop .inv .1) _ _ (c .before .before .before .before .before .before .passing .ensures) (c .before .before .before .before .passing2 .ensures) (c .before .before .before .before .before .before .before .before .loop-test .taken) _ _ _ (c .before .grow .ensures) (c .if1 .taken) _ refl refl refl
 
 add-e : tie.Need-add-e Inv-loop μ-loop
 add-e c = search needs
@@ -45,10 +45,10 @@ loop-less : tie.Need-loop-less Inv-loop μ-loop
 loop-less c = search needs
 
 loop-again : tie.Need-loop-again Inv-loop μ-loop
-loop-again c = (search needs, stretching-next _ _ _ _ _ _ _ _ _ _ _ _ _ _ _ _ (c .before .before .before .before .before .before .before .before .before .loop .inv .1) _ _ (c .before .before .before .before .before .before .passing .ensures) (c .before .before .before .before .passing2 .ensures) (c .before .before .before .before .before .before .before .before .loop-test .taken) _ _ _ (c .before .grow .ensures) (c .if1 .left))
+loop-again c = (search needs, stretching-next _ _ _ _ _ _ _ _ _ _ _ _ _ _ _ _ _ (c .before .before .before .before .before .before .before .before .before .loop .inv .1) _ _ (c .before .before .before .before .before .before .passing .ensures) (c .before .before .before .before .passing2 .ensures) (c .before .before .before .before .before .before .before .before .loop-test .taken) _ _ _ (c .before .grow .ensures) (c .if1 .left))
 
 returns-2 : tie.Need-returns-2 Inv-loop μ-loop
-returns-2 c = stretching-end _ _ _ _ _ _ _ _ _ _ _ _ _ _ _ _ (c .before .loop .inv .1) (c .loop-test .left) _ refl refl refl
+returns-2 c = stretching-end _ _ _ _ _ _ _ _ _ _ _ _ _ _ _ _ _ (c .before .loop .inv .1) (c .loop-test .left) _ refl refl refl
 
 pub fill-label-spec : {M : Type 1} → statement M
 fill-label-spec =

@@ -5,10 +5,10 @@ use Rattle.search_tables.proofs.grow.Statement.{statement}
 use Rattle.search_tables.proofs.grow.Tie as tie
 
 abbrev Inv-loop : tie.InvT-loop
-Inv-loop z ends wide lefts₀ rights₀ base n cells s count₀ left₀ lefts rights count left = Growing z ends wide lefts₀ rights₀ base n cells s lefts rights count left
+Inv-loop z own ends wide lefts₀ rights₀ base n cells s count₀ left₀ lefts rights count left = Growing z own ends wide lefts₀ rights₀ base n cells s lefts rights count left
 
 abbrev μ-loop : tie.MeasureT-loop
-μ-loop z ends wide lefts₀ rights₀ base n cells s count₀ left₀ lefts rights count left = left
+μ-loop z own ends wide lefts₀ rights₀ base n cells s count₀ left₀ lefts rights count left = left
 
 loop-holds : tie.Need-loop-holds Inv-loop μ-loop
 loop-holds c = search growing-start

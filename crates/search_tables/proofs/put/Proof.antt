@@ -16,6 +16,12 @@ place-requires c κs = search needs
 returns-2 : tie.Need-returns-2
 returns-2 c = search put-full
 
+seen-as-requires : tie.Need-seen-as-requires
+seen-as-requires c κs = search needs
+
+union-requires : tie.Need-union-requires
+union-requires c κs = search needs
+
 join-requires : tie.Need-join-requires
 join-requires c κs = search needs
 
@@ -33,6 +39,8 @@ put-spec =
     returns
     place-requires
     returns-2
+    seen-as-requires
+    union-requires
     join-requires
     narrow-requires
     returns-3)

@@ -1,7 +1,6 @@
 -- `search_tables::uncovered` meets its contract. The invariant: the table covers the tips of the cells that were left out.
 use native.Mathlib.Omega.{arith}
-use mathlib.Core.Logic.{⊎-elim}
-use Prim.Native.Nat.{_-_, _≤_}
+use Prim.Native.Nat.{_≤_}
 use Rattle.search_tables.specs.Tips.{Rest}
 use Rattle.search_tables.proofs.Exits.{rest-start, rest-next}
 use borrow.Author.Needs.{needs}
@@ -12,10 +11,13 @@ abbrev Inv-loop : tie.InvT-loop
 Inv-loop lefts rights n cells w left₀ e₀ left e = (e ≤ n) × (n ≤ 64) × Rest lefts rights n cells w left
 
 abbrev μ-loop : tie.MeasureT-loop
-μ-loop lefts rights n cells w left₀ e₀ left e = n - e
+μ-loop lefts rights n cells w left₀ e₀ left e = e
 
 loop-holds : tie.Need-loop-holds Inv-loop μ-loop
 loop-holds c = (omega arith, search needs, search rest-start)
+
+sub-e : tie.Need-sub-e Inv-loop μ-loop
+sub-e c = omega arith
 
 mul-inside : tie.Need-mul-inside Inv-loop μ-loop
 mul-inside c = search needs
@@ -38,18 +40,17 @@ minus-requires c κs = search needs
 returns : tie.Need-returns Inv-loop μ-loop
 returns c = search rest-next
 
-add-e : tie.Need-add-e Inv-loop μ-loop
-add-e c = search needs
-
 loop-less : tie.Need-loop-less Inv-loop μ-loop
-loop-less c = search needs
+loop-less c = omega arith
 
 loop-again : tie.Need-loop-again Inv-loop μ-loop
-loop-again c =
-    ⊎-elim
-    (λ w. (omega arith, search needs, rw (w .4) (search rest-next)))
-    (λ w. (omega arith, search needs, rw (w .1) (search needs)))
-    (c .if1 .came)
+loop-again c = (omega arith, search needs, search rest-next)
+
+loop-less-2 : tie.Need-loop-less-2 Inv-loop μ-loop
+loop-less-2 c = omega arith
+
+loop-again-2 : tie.Need-loop-again-2 Inv-loop μ-loop
+loop-again-2 c = (omega arith, search needs, search needs)
 
 returns-2 : tie.Need-returns-2 Inv-loop μ-loop
 returns-2 c = search needs
@@ -61,6 +62,7 @@ uncovered-spec =
     Inv-loop
     μ-loop
     loop-holds
+    sub-e
     mul-inside
     element-copy-out-inside
     inside-requires
@@ -68,7 +70,8 @@ uncovered-spec =
     element-copy-out-minus
     minus-requires
     returns
-    add-e
     loop-less
     loop-again
+    loop-less-2
+    loop-again-2
     returns-2)
