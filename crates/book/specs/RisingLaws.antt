@@ -51,7 +51,7 @@ member-list zero f k m = absurd (List·Memᴰ·not-nil m)
 member-list (suc n) f k m =
     ⊎-elim (λ e. (0, omega arith, e)) (λ o. let (i, h, e) = member-list n (λ i. f (suc i)) k o in (suc i, suc-le-suc h, e)) (List·Memᴰ·cases-cons m)
 
-list-member : (n : ℕ) (f : ℕ → Link) (i : ℕ) → i < n → List·Memᴰ (f i) (list n f)
+pub list-member : (n : ℕ) (f : ℕ → Link) (i : ℕ) → i < n → List·Memᴰ (f i) (list n f)
 unfolding list
 list-member zero f i h = absurd (omega arith)
 list-member (suc n) f zero h = List·Memᴰ·head refl

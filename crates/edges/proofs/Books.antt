@@ -12,15 +12,15 @@ use Rattle.theory.specs.Search.{list}
 use Rattle.theory.specs.TestLaws.{list-ext}
 use Rattle.theory.specs.Graph.{Comparison, same, differ, Link, Inside}
 use Rattle.words.specs.Words.{wordOf}
-use Rattle.words.specs.Laws.{word-in, word-out}
+use Rattle.words.specs.Laws.{word-in, word-out, wordOf-ext}
 use Rattle.book.specs.Book.{cellsOf, linksOf, linkAt, bookRefusal, asLink}
 use Rattle.book.specs.BookGraph.{passes, hides, clear, kept, seenLinks, seenRecording, seenOf}
 use Rattle.book.specs.AcceptedLaws.{book-sizes, book-link}
 use Rattle.book.specs.SeenLaws.{seen-ends, seen-graph}
 use Rattle.book.specs.declared.BookLink.{BookLink}
 use Rattle.edges.specs.Edges.{edgeAt, edges, emptyRows}
-use Rattle.edges.specs.BookEdges.{Loaded, comparisonOf, passingTo, passingRows, passing}
-use Rattle.edges.specs.Laws.{rows-none, rows-more}
+use Rattle.edges.specs.BookEdges.{Loaded, comparisonOf, recordingsTo, recordings, passingIn, passingTo, passingRows, passing}
+use Rattle.edges.specs.Laws.{rows-at, rows-none, rows-more}
 use Rattle.edges.specs.declared.Comparison.{Comparison as Asked}
 use Rattle.edges.specs.declared.Comparison.the-variants.{Same, Differ}
 
@@ -158,37 +158,57 @@ module _ (asked : Asked) (a b : ℕ) (r : Bool) where
   pub passes-differ : asked ≡ Differ → r ≡ passes differ a b → r ≡ passes (comparisonOf asked) a b
   passes-differ e d = rw e d
 
+-- ---- the recordings, one turn at a time
+module _ (h : ℕ) (s : List ℕ) where
+  pub list-start : emptyRows 64 ≡ recordingsTo h s 0
+  unfolding recordingsTo
+  list-start = rows-none 64 _
+
+  module _ (list : List ℕ) (x : ℕ) (i : list ≡ recordingsTo h s x) where
+    pub list-next : (v : ℕ) → v ≡ seenRecording h s x → set list x v ≡ recordingsTo h s (x + 1)
+    unfolding recordingsTo
+    list-next v d = rw (i, d) (rows-more 64 x _)
+
+    pub list-all : (n : ℕ) → n ≡ cellsOf s → n ≤ x → x ≤ n → list ≡ recordings h s
+    list-all n d m l = let e : x ≡ cellsOf s = omega arith in rw e at i
+
 -- ---- the cells that pass with a cell, one turn at a time
+module _ (rs : List ℕ) (t : Comparison) (x : ℕ) where
+  pub word-none : 0 ≡ passingIn rs t x 0
+  unfolding passingIn wordOf
+  word-none = refl
+
+  module _ (y : ℕ) (r : Bool) (d : r ≡ passes t (getD rs x 0) (getD rs y 0)) (out next : ℕ) (i : out ≡ passingIn rs t x y) where
+    pub word-more : So r → (joined : ℕ) → joined ≡ bitOr out (2 ^ y) → next ≡ joined → next ≡ passingIn rs t x (y + 1)
+    unfolding passingIn
+    word-more e = word-in (λ y. passes t (getD rs x 0) (getD rs y 0)) y out next i (sym d ∙ e)
+
+    pub word-skip : r ≡ false → next ≡ out → next ≡ passingIn rs t x (y + 1)
+    unfolding passingIn
+    word-skip e = word-out (λ y. passes t (getD rs x 0) (getD rs y 0)) y out next i (sym d ∙ e)
+
+  pub word-all : (y n out : ℕ) → n ≤ y → y ≤ n → out ≡ passingIn rs t x y → out ≡ passingIn rs t x n
+  word-all y n out m l i = let e : y ≡ n = omega arith in rw e at i
+
+-- ---- their rows
 module _ (h : ℕ) (s : List ℕ) (t : Comparison) where
-  pub word-none : (x : ℕ) → 0 ≡ passingTo h s t x 0
-  unfolding passingTo wordOf
-  word-none x = refl
-
-  module _ (n x y : ℕ) (dn : n ≡ cellsOf s) (hx : x < cellsOf s) (hy : y < n) (a b : ℕ) (da : a ≡ seenRecording h s x) (db : b ≡ seenRecording h s y)
-      (r : Bool) (dr : r ≡ passes t a b) (out next : ℕ) (i : out ≡ passingTo h s t x y) where
-    passed : seenOf h s .ends t x y ≡ r
-    passed = seen-ends h s t x y hx (omega arith) ∙ rw (← da, ← db, ← dr)
-
-    pub word-more : So r → (joined : ℕ) → joined ≡ bitOr out (2 ^ y) → next ≡ joined → next ≡ passingTo h s t x (y + 1)
-    unfolding passingTo
-    word-more e = word-in (seenOf h s .ends t x) y out next i (passed ∙ e)
-
-    pub word-skip : r ≡ false → next ≡ out → next ≡ passingTo h s t x (y + 1)
-    unfolding passingTo
-    word-skip e = word-out (seenOf h s .ends t x) y out next i (passed ∙ e)
-
-  pub word-all : (x y n out : ℕ) → n ≡ cellsOf s → n ≤ y → y ≤ n → out ≡ passingTo h s t x y → out ≡ passingTo h s t x (cellsOf s)
-  word-all x y n out d m l i = let e : y ≡ cellsOf s = omega arith in rw e at i
-
-  -- ---- their rows
   pub rows-start : emptyRows 64 ≡ passingRows h s t 0
   unfolding passingRows
   rows-start = rows-none 64 _
 
-  module _ (rows : List ℕ) (x : ℕ) (i : rows ≡ passingRows h s t x) where
-    pub rows-next : (v : ℕ) → v ≡ passingTo h s t x (cellsOf s) → set rows x v ≡ passingRows h s t (x + 1)
-    unfolding passingRows
-    rows-next v d = rw (i, d) (rows-more 64 x _)
+  module _ (rows : List ℕ) (x n : ℕ) (i : rows ≡ passingRows h s t x) (d : n ≡ cellsOf s) where
+    -- with the recordings of the list they pass as they do in the book
+    pub rows-next : (list : List ℕ) → list ≡ recordings h s → x < n → n ≤ 64 → (v : ℕ) → v ≡ passingIn list t x n → set rows x v ≡ passingRows h s t (x + 1)
+    unfolding passingRows passingTo passingIn recordingsTo
+    rows-next list e l few v f = rw (i, f ∙ same) (rows-more 64 x _)
+      where
+        at : (y : ℕ) → y < n → getD list y 0 ≡ seenRecording h s y
+        at y m = rw e (rows-at 64 (cellsOf s) (seenRecording h s) y (omega arith) (omega arith))
 
-    pub rows-all : (n : ℕ) → n ≡ cellsOf s → n ≤ x → x ≤ n → rows ≡ passing h s t
-    rows-all n d m l = let e : x ≡ cellsOf s = omega arith in rw e at i
+        same : wordOf n (λ y. passes t (getD list x 0) (getD list y 0)) ≡ wordOf (cellsOf s) (seenOf h s .ends t x)
+        same =
+            wordOf-ext n _ _ (λ y m. rw (at x l, at y m) (sym (seen-ends h s t x y (omega arith) (omega arith))))
+            ∙ ap (λ k. wordOf k (seenOf h s .ends t x)) d
+
+    pub rows-all : n ≤ x → x ≤ n → rows ≡ passing h s t
+    rows-all m l = let e : x ≡ cellsOf s = omega arith in rw e at i

@@ -1,10 +1,10 @@
 -- What each turn and each way out of the functions shows of the definitions of `specs/`. The numbers that the code computed are variables
 -- here, with what is known of them, so that `search` finds them in a need's record.
 use mathlib.Core.Bool.{Bool, true, false, So, cond, _&&_, _||_}
-use mathlib.Core.Path.{_≡_, refl, sym, ap₂, _∙_}
+use mathlib.Core.Path.{_≡_, refl, sym, ap, ap₂, _∙_}
 use mathlib.Core.List.{List, [], _∷_}
 use Prim.Native.Nat.{ℕ, zero, suc, _+_, _-_, _*_, _/_, _%_, _^_, _≤_, _<_}
-use native.Mathlib.Nat.{mod-lt, mod-eq-of-lt, one-mul, zero-mul}
+use native.Mathlib.Nat.{add-zero, mod-lt, mod-eq-of-lt, one-mul, zero-mul}
 use native.Mathlib.Omega.{arith}
 use borrow.Author.Tests.{eq-eqb, ne-eqb}
 use lib.Bits.{bitAnd, bitOr, bitXor, and-mask, or-zero-r}
@@ -18,6 +18,8 @@ use Rattle.theory.specs.TestLaws.{list-ext}
 use Rattle.theory.specs.Graph.{Link}
 use Rattle.words.specs.Words.{bit}
 use Rattle.edges.specs.Edges.{edgeAt, edges, Held, image, gather, meets, anyPasses}
+use Rattle.edges.specs.Groups.{groupOf, total, Grouped, GroupWith}
+use Rattle.edges.specs.declared.Group.{Group}
 use Rattle.edges.specs.Laws.{meets-zero, passes-more, passes-none}
 
 -- ---- one bit moved
@@ -38,12 +40,12 @@ pub low-scaled : (x : ℕ) → x < 64 → Fits w64 (x * 8)
 low-scaled x h = record { fits = omega arith }
 
 -- ---- a link's nodes
-module _ (count : ℕ) (fs ts : List ℕ) (d : Held count fs ts) (k : ℕ) (h : k < count) where
+module _ (count : ℕ) (fs ts : List ℕ) (d : Held count fs ts) (k until : ℕ) (h : k < until) (m : until ≤ count) where
   pub from-below : getD fs k 0 < 64
-  from-below = d .from-low k h
+  from-below = d .from-low k (omega arith)
 
   pub to-below : getD ts k 0 < 64
-  to-below = d .to-low k h
+  to-below = d .to-low k (omega arith)
 
 -- ---- the links that a loop has still to visit
 unfoldable pub rest : ℕ → List ℕ → List ℕ → List ℕ → ℕ → List Link
@@ -68,21 +70,23 @@ module _ (count : ℕ) (fs ls ts : List ℕ) where
         let e : k + 0 ≡ k = omega arith in
         rw (z, e) (ap₂ _∷_ refl (list-ext (count - (k + 1)) _ _ (λ i l. let d : k + suc i ≡ k + 1 + i = omega arith in rw d)))
 
+  -- n links from link k on, with other labels than a, change nothing for what passes over such a link
+  passed-over : {A : Type 0} (a : ℕ) (f : List Link → A) → ((k : Link) (ks : List Link) → (k .label ≡ a → ⊥) → f (k ∷ ks) ≡ f ks) → (n k : ℕ)
+      → k + n ≤ count → ((i : ℕ) → k ≤ i → i < k + n → getD ls i 0 ≡ a → ⊥) → f (rest count fs ls ts k) ≡ f (rest count fs ls ts (k + n))
+  passed-over a f over zero k h other = rw (add-zero k)
+  passed-over a f over (suc n) k h other =
+      ap f (rest-more k (omega arith)) ∙ over (edgeAt fs ls ts k) _ (other k (omega arith) (omega arith))
+      ∙ passed-over a f over n (k + 1) (omega arith) (λ i u v. other i (omega arith) (omega arith))
+      ∙ ap (λ j. f (rest count fs ls ts j)) (omega arith)
+
   module _ (a w : ℕ) where
     -- ---- the image of a set
-    pub image-start : image (rest count fs ls ts 0) a w 0 ≡ image (edges count fs ls ts) a w 0
-    image-start = rw rest-all
-
     module _ (out k : ℕ) (inv : image (rest count fs ls ts k) a w out ≡ image (edges count fs ls ts) a w 0) where
-      pub image-end : count ≤ k → out ≡ image (edges count fs ls ts) a w 0
-      unfolding image
-      image-end h = rw (rest-none k h) at inv
-
-      module _ (h : k < count) where
+      module _ (until : ℕ) (h : k < until) (m : until ≤ count) where
         image-turn : (b : Bool) → eqb (getD ls k 0) a ≡ b
             → image (rest count fs ls ts (k + 1)) a w (cond (b && bit w (getD fs k 0)) (bitOr out (2 ^ getD ts k 0)) out) ≡ image (edges count fs ls ts) a w 0
         unfolding image
-        image-turn b e = rw (← e) (rw (rest-more k h) at inv)
+        image-turn b e = rw (← e) (rw (rest-more k (omega arith)) at inv)
 
         pub image-next : (one next : ℕ) → one ≡ cond (bit w (getD fs k 0)) (2 ^ getD ts k 0) 0 → getD ls k 0 ≡ a → next ≡ bitOr out one
             → image (rest count fs ls ts (k + 1)) a w next ≡ image (edges count fs ls ts) a w 0
@@ -98,21 +102,14 @@ module _ (count : ℕ) (fs ls ts : List ℕ) where
 
     -- ---- rows of sets
     module _ (later rows₀ : List ℕ) where
-      pub gather-start : gather (rest count fs ls ts 0) a w later rows₀ ≡ gather (edges count fs ls ts) a w later rows₀
-      gather-start = rw rest-all
-
       module _ (rows : List ℕ) (k : ℕ) (inv : gather (rest count fs ls ts k) a w later rows ≡ gather (edges count fs ls ts) a w later rows₀) where
-        pub gather-end : count ≤ k → rows ≡ gather (edges count fs ls ts) a w later rows₀
-        unfolding gather
-        gather-end h = rw (rest-none k h) at inv
-
-        module _ (h : k < count) where
+        module _ (until : ℕ) (h : k < until) (m : until ≤ count) where
           gather-turn : (b : Bool) → (eqb (getD ls k 0) a && bit w (getD ts k 0)) ≡ b
               → gather (rest count fs ls ts (k + 1)) a w later
               (cond b (set rows (getD fs k 0) (bitOr (getD rows (getD fs k 0) 0) (getD later (getD ts k 0) 0))) rows)
               ≡ gather (edges count fs ls ts) a w later rows₀
           unfolding gather
-          gather-turn b e = rw (← e) (rw (rest-more k h) at inv)
+          gather-turn b e = rw (← e) (rw (rest-more k (omega arith)) at inv)
 
           module _ (next : List ℕ) where
             pub gather-other : (getD ls k 0 ≡ a → ⊥) → next ≡ rows
@@ -127,6 +124,62 @@ module _ (count : ℕ) (fs ls ts : List ℕ) where
               pub gather-outside : t ≡ false → next ≡ rows
                   → gather (rest count fs ls ts (k + 1)) a w later next ≡ gather (edges count fs ls ts) a w later rows₀
               gather-outside v u = rw u (gather-turn false (rw (eq-eqb (getD ls k 0) a e, ← d) v))
+
+-- ---- the links of a label's group, of all links
+pub group-found : (starts : List ℕ) (a g : ℕ) (r : Group) → g ≡ groupOf a → r .start ≡ getD starts g 0 → r .until ≡ getD starts (g + 1) 0 → GroupWith starts a r
+group-found starts a g r d e f = record { start = rw (← d) e; until = rw (← d) f }
+
+module _ (starts fs ls ts : List ℕ) (d : Grouped starts ls) (a : ℕ) (group : Group) (e : GroupWith starts a group) where
+  -- the group starts among the links
+  pub start-within : group .start ≤ total starts
+  start-within = omega (arith, e .start, d .within (groupOf a) (omega arith))
+
+  -- and ends among them
+  pub until-within : group .until ≤ total starts
+  until-within = omega (arith, e .until, d .within (groupOf a + 1) (omega arith))
+
+  module _ {A : Type 0} (f : List Link → A) (over : (k : Link) (ks : List Link) → (k .label ≡ a → ⊥) → f (k ∷ ks) ≡ f ks) where
+    -- no link with the label a is before its group
+    none-before : f (rest (total starts) fs ls ts (group .start)) ≡ f (edges (total starts) fs ls ts)
+    none-before =
+        sym (ap f (sym (rest-all (total starts) fs ls ts)) ∙ passed-over (total starts) fs ls ts a f over (group .start) 0 (omega (arith, start-within))
+        (λ i _ l q. let o = rw q at (d .onward i (omega (arith, start-within))) in omega (arith, e .start))
+        ∙ ap (λ j. f (rest (total starts) fs ls ts j)) (omega arith))
+
+    -- nor behind it
+    none-behind : (k : ℕ) → group .until ≤ k → k ≤ total starts → f (rest (total starts) fs ls ts k) ≡ f []
+    none-behind k h m =
+        passed-over (total starts) fs ls ts a f over (total starts - k) k (omega arith)
+        (λ i b l q. let o = rw q at (d .before i (omega arith)) in omega (arith, e .until))
+        ∙ ap f (rest-none (total starts) fs ls ts _ (omega arith))
+
+  module _ (w : ℕ) where
+    image-over : (out : ℕ) (k : Link) (ks : List Link) → (k .label ≡ a → ⊥) → image (k ∷ ks) a w out ≡ image ks a w out
+    unfolding image
+    image-over out k ks f = rw (ne-eqb (k .label) a f)
+
+    pub image-start : image (rest (total starts) fs ls ts (group .start)) a w 0 ≡ image (edges (total starts) fs ls ts) a w 0
+    image-start = none-before (λ ks. image ks a w 0) (image-over 0)
+
+    pub image-end : (out k : ℕ) → group .until ≤ k → k ≤ total starts
+        → image (rest (total starts) fs ls ts k) a w out ≡ image (edges (total starts) fs ls ts) a w 0
+        → out ≡ image (edges (total starts) fs ls ts) a w 0
+    unfolding image
+    image-end out k h m inv = sym (none-behind (λ ks. image ks a w out) (image-over out) k h m) ∙ inv
+
+    module _ (later : List ℕ) where
+      gather-over : (rows : List ℕ) (k : Link) (ks : List Link) → (k .label ≡ a → ⊥) → gather (k ∷ ks) a w later rows ≡ gather ks a w later rows
+      unfolding gather
+      gather-over rows k ks f = rw (ne-eqb (k .label) a f)
+
+      pub gather-start : (rows : List ℕ) → gather (rest (total starts) fs ls ts (group .start)) a w later rows ≡ gather (edges (total starts) fs ls ts) a w later rows
+      gather-start rows = none-before (λ ks. gather ks a w later rows) (gather-over rows)
+
+      pub gather-end : (rows₀ rows : List ℕ) (k : ℕ) → group .until ≤ k → k ≤ total starts
+          → gather (rest (total starts) fs ls ts k) a w later rows ≡ gather (edges (total starts) fs ls ts) a w later rows₀
+          → rows ≡ gather (edges (total starts) fs ls ts) a w later rows₀
+      unfolding gather
+      gather-end rows₀ rows k h m inv = sym (none-behind (λ ks. gather ks a w later rows) (gather-over rows) k h m) ∙ inv
 
 -- ---- two sets and rows
 module _ (first second : ℕ) (rows : List ℕ) (left : ℕ) (inv : anyPasses left second rows ≡ anyPasses first second rows) where

@@ -2,10 +2,11 @@
 use mathlib.Core.Path.{_≡_}
 use mathlib.Core.List.{List}
 use Prim.Native.Nat.{ℕ}
+use lib.ListN.{getD}
 use Rattle.theory.specs.Graph.{Comparison, same, differ}
 use Rattle.words.specs.Words.{wordOf}
 use Rattle.book.specs.Book.{cellsOf}
-use Rattle.book.specs.BookGraph.{seenLinks, seenOf}
+use Rattle.book.specs.BookGraph.{passes, seenLinks, seenRecording, seenOf}
 use Rattle.edges.specs.Edges.{edges, Held, rowsTo}
 use Rattle.edges.specs.declared.Comparison.{Comparison as Asked}
 use Rattle.edges.specs.declared.Comparison.the-variants.{Same, Differ}
@@ -20,7 +21,19 @@ abbrev pub comparisonOf : Asked → Comparison
 comparisonOf Same = same
 comparisonOf Differ = differ
 
--- Of the first m cells, those that pass the comparison with cell x.
+-- The recordings of the first m cells as they are seen, in a list of 64; the others are silent.
+unfoldable pub recordingsTo : ℕ → List ℕ → ℕ → List ℕ
+recordingsTo h s m = rowsTo 64 m (seenRecording h s)
+
+-- The recordings of all cells.
+abbrev pub recordings : ℕ → List ℕ → List ℕ
+recordings h s = recordingsTo h s (cellsOf s)
+
+-- Of the first m cells with these recordings, those that pass the comparison with cell x.
+unfoldable pub passingIn : List ℕ → Comparison → ℕ → ℕ → ℕ
+passingIn rs t x m = wordOf m (λ y. passes t (getD rs x 0) (getD rs y 0))
+
+-- Of the first m cells of the book, those that pass the comparison with cell x.
 unfoldable pub passingTo : ℕ → List ℕ → Comparison → ℕ → ℕ → ℕ
 passingTo h s t x m = wordOf m (seenOf h s .ends t x)
 

@@ -13,7 +13,7 @@ use lib.Pow.{pow-pos, pow-lt}
 use lib.Seq.{getD-set-same, getD-set-other}
 use Rattle.theory.specs.Search.{any, list}
 use Rattle.theory.specs.TestLaws.{any-iff, any-ext, and-iff, or-iff, test-eq, test-fails, list-at, list-ext, facts}
-use Rattle.theory.specs.Graph.{Graph, Link, Inside, WellFormed, has, linked}
+use Rattle.theory.specs.Graph.{Graph, Link, Inside, has, linked}
 use Rattle.outcome.specs.RefusalLaws.{either}
 use Rattle.words.specs.Words.{bit, wordOf}
 use Rattle.words.specs.Laws.{bit-zero, bit-or, bit-with, bit-without, meet-zero-iff, bit-wordOf, bit-wordOf-lt, wordOf-lt, wordOf-is}
@@ -285,15 +285,16 @@ any-passes-is n f h r rows l d =
     ∙ any-ext n _ _
     (λ y m. ap (λ (b : Bool). f y && b) (ap (meets (wordOf n h)) (d .row y m) ∙ meets-word n h (r y) l))
 
--- ---- the links of a graph, held in three lists
-module _ (g : Graph) (ok : WellFormed g) (count : ℕ) (fs ls ts : List ℕ) (is : edges count fs ls ts ≡ g .links) (a : ℕ) (p : ℕ → Bool) where
+-- ---- the links of a graph, held in three lists in any order
+module _ (g : Graph) (count : ℕ) (fs ls ts : List ℕ) (inside : Inside (g .size) (edges count fs ls ts))
+    (links : (x a y : ℕ) → has (edges count fs ls ts) x a y ≡ linked g x a y) (a : ℕ) (p : ℕ → Bool) where
   -- the nodes that a link with the label a leads from to a node with p
   pub preimage-is : image (edges count ts ls fs) a (wordOf (g .size) p) 0 ≡ wordOf (g .size) (λ x. any (g .size) (λ y. linked g x a y && p y))
   preimage-is =
-      rw (edges-turned count fs ls ts, is)
-      (simp has-turned at (image-word (g .size) (turned (g .links)) (inside-turned (g .size) (g .links) (ok .inside)) a p))
+      rw (edges-turned count fs ls ts)
+      (simp (has-turned, links) at (image-word (g .size) (turned (edges count fs ls ts)) (inside-turned (g .size) _ inside) a p))
 
   -- the rows of what the nodes with p, that a link with the label a leads to, have in `later`
   pub gather-is : (q : ℕ → ℕ → Bool) (later : List ℕ) → Rows (g .size) q later → (size : ℕ) → g .size ≤ size
       → Rows (g .size) (λ x z. any (g .size) (λ y. linked g x a y && (p y && q y z))) (gather (edges count fs ls ts) a (wordOf (g .size) p) later (emptyRows size))
-  gather-is q later d size h = rw is (gather-word (g .size) (g .links) (ok .inside) a p q later d size h)
+  gather-is q later d size h = simp links at (gather-word (g .size) (edges count fs ls ts) inside a p q later d size h)

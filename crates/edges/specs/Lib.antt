@@ -1,4 +1,5 @@
 pub mod Edges
+pub mod Groups
 pub mod BookEdges
 pub mod Laws
 pub mod BookLaws

@@ -2,13 +2,14 @@
 // which know nothing of a book's bytes.
 ghost use mathlib.Core.Path.{_≡_};
 ghost use mathlib.Core.Bool.{cond};
-ghost use Prim.Native.Nat.{_^_, _<_};
+ghost use Prim.Native.Nat.{_^_, _≤_, _<_};
 ghost use lib.ListN.{length};
 ghost use Rattle.words.specs.Words.{bit};
-ghost use Rattle.book.specs.Book.{cellsOf, bookRefusal, asLink};
+ghost use Rattle.book.specs.Book.{bookRefusal, asLink};
 ghost use Rattle.book.specs.BookGraph.{passes, clear};
 ghost use Rattle.edges.specs.Edges.{edges, Held, image, gather, emptyRows, anyPasses};
-ghost use Rattle.edges.specs.BookEdges.{Loaded, comparisonOf, passingTo, passing};
+ghost use Rattle.edges.specs.Groups.{groupOf, total, Grouped, GroupWith};
+ghost use Rattle.edges.specs.BookEdges.{Loaded, comparisonOf, recordings, passingIn, passing};
 use book::BookLink;
 use book::Recording;
 
@@ -65,22 +66,55 @@ fn moved(w: u64, i: u8, j: u8) -> u64
     ((w >> i) & 1) << j
 }
 
-// The nodes that a link with the label leads to from a node of w, of the first `count` links. With the lists of from and to nodes
+// The group of a label.
+pub fn group_of(label: u16) -> usize
+    ensures { λ r. ⌜ r ≡ groupOf label ⌝ }
+{
+    (label % 64) as usize
+}
+
+// The same number, of a wider type.
+fn wide(x: u16) -> usize
+    ensures { λ r. ⌜ r ≡ x ⌝ }
+{
+    x as usize
+}
+
+// The links of one group: from link `start` up to link `until`.
+struct Group {
+    start: usize,
+    until: usize,
+}
+
+// The links of the label's group.
+fn group_with(starts: &[u16; 65], label: u16) -> Group
+    ensures { λ r. ⌜ GroupWith (now (starts .entry)) label r ⌝ }
+{
+    let group = group_of(label);
+    Group {
+        start: wide(starts[group]),
+        until: wide(starts[group + 1]),
+    }
+}
+
+// The nodes that a link with the label leads to from a node of w, of links in groups that start so. With the lists of from and to nodes
 // exchanged, the nodes that such a link leads from into w. No branch depends on w.
 pub fn image(
-    count: usize,
+    starts: &[u16; 65],
     from: &[u8; 512],
     labels: &[u16; 512],
     to: &[u8; 512],
     label: u16,
     w: u64,
 ) -> u64
-    requires { ⌜ Held count (now from) (now to) ⌝ }
-    ensures { λ r. ⌜ r ≡ image (edges count (now (from .entry)) (now (labels .entry)) (now (to .entry))) label w 0 ⌝ }
+    requires { ⌜ Held (total (now starts)) (now from) (now to) × Grouped (now starts) (now labels) ⌝ }
+    ensures { λ r. ⌜ r ≡ image (edges (total (now (starts .entry))) (now (from .entry)) (now (labels .entry)) (now (to .entry))) label w 0 ⌝ }
 {
+    let group = group_with(starts, label);
+    let until = group.until;
+    let mut k = group.start;
     let mut out: u64 = 0;
-    let mut k = 0;
-    while k < count {
+    while k < until {
         let one = moved(w, from[k], to[k]);
         if labels[k] == label {
             out = out | one;
@@ -91,9 +125,9 @@ pub fn image(
 }
 
 // Rows of sets, one a node: the row of a node is the union of the rows, in `later`, of the nodes of w that a link with the label
-// leads to from it.
+// leads to from it, of links in groups that start so.
 pub fn gather(
-    count: usize,
+    starts: &[u16; 65],
     from: &[u8; 512],
     labels: &[u16; 512],
     to: &[u8; 512],
@@ -101,12 +135,14 @@ pub fn gather(
     w: u64,
     later: &[u64; 64],
 ) -> [u64; 64]
-    requires { ⌜ Held count (now from) (now to) ⌝ }
-    ensures { λ r. ⌜ r ≡ gather (edges count (now (from .entry)) (now (labels .entry)) (now (to .entry))) label w (now (later .entry)) (emptyRows 64) ⌝ }
+    requires { ⌜ Held (total (now starts)) (now from) (now to) × Grouped (now starts) (now labels) ⌝ }
+    ensures { λ r. ⌜ r ≡ gather (edges (total (now (starts .entry))) (now (from .entry)) (now (labels .entry)) (now (to .entry))) label w (now (later .entry)) (emptyRows 64) ⌝ }
 {
+    let group = group_with(starts, label);
+    let until = group.until;
+    let mut k = group.start;
     let mut rows = [0u64; 64];
-    let mut k = 0;
-    while k < count {
+    while k < until {
         if labels[k] == label {
             if words::has(w, to[k]) {
                 let i = from[k] as usize;
@@ -144,17 +180,32 @@ fn passes(comparison: Comparison, a: Recording, b: Recording) -> bool
     }
 }
 
-// The cells that pass the comparison with cell x; a hidden cell passes none.
-fn passing_with(book: &[u8], hidden: u64, comparison: Comparison, x: usize) -> u64
-    requires { ⌜ (bookRefusal (now book) ≡ 0) × (x < cellsOf (now book)) ⌝ }
-    ensures { λ r. ⌜ r ≡ passingTo hidden (now (book .entry)) (comparisonOf comparison) x (cellsOf (now (book .entry))) ⌝ }
+// The recordings of the cells of an accepted book as they are seen, one a cell; those from the number of cells on are silent.
+fn recordings(book: &[u8], hidden: u64) -> [u32; 64]
+    requires { ⌜ bookRefusal (now book) ≡ 0 ⌝ }
+    ensures { λ r. ⌜ r ≡ recordings hidden (now (book .entry)) ⌝ }
 {
     let n = book::cells_of(book);
-    let here = book::recording_seen(book, hidden, x);
+    let mut list = [0u32; 64];
+    let mut x = 0;
+    while x < n {
+        let here = book::recording_seen(book, hidden, x);
+        list[x] = here.0;
+        x += 1;
+    }
+    list
+}
+
+// Of n cells with these recordings, those that pass the comparison with cell x.
+fn passing_with(list: &[u32; 64], n: usize, comparison: Comparison, x: usize) -> u64
+    requires { ⌜ (n ≤ 64) × (x < n) ⌝ }
+    ensures { λ r. ⌜ r ≡ passingIn (now (list .entry)) (comparisonOf comparison) x n ⌝ }
+{
+    let here = Recording(list[x]);
     let mut out: u64 = 0;
     let mut y = 0;
     while y < n {
-        let there = book::recording_seen(book, hidden, y);
+        let there = Recording(list[y]);
         if passes(comparison, here, there) {
             out = words::with(out, y as u8);
         }
@@ -170,10 +221,11 @@ pub fn passing(book: &[u8], hidden: u64, comparison: Comparison) -> [u64; 64]
     ensures { λ r. ⌜ r ≡ passing hidden (now (book .entry)) (comparisonOf comparison) ⌝ }
 {
     let n = book::cells_of(book);
+    let list = recordings(book, hidden);
     let mut rows = [0u64; 64];
     let mut x = 0;
     while x < n {
-        rows[x] = passing_with(book, hidden, comparison, x);
+        rows[x] = passing_with(&list, n, comparison, x);
         x += 1;
     }
     rows

@@ -102,7 +102,7 @@ module _ {g : Graph} {t : Tables} (o : TablesOf g t) {qs : List NodeExpr} {m : �
       let n = g .size in
       let p : ℕ → Bool = λ y. holds g (named qs (s .test)) y && holds g (exists (spellWay qs ss)) y in
       rw (way-word ss (b .1), k .word (s .test) (b .0), and-wordOf)
-      (preimage-is g (o .formed) (t .count) (t .froms) (t .labels) (t .tos) (o .links) (s .label) _
+      (preimage-is g (t .count) (t .froms) (t .labels) (t .tos) (o .inside) (o .links) (s .label) _
       ∙ wordOf-ext n _ _
       (λ x h. any-ext n _ _ (λ y l. ap (λ (b : Bool). linked g x (s .label) y && b) (and-within (g .shown y) _ _) ∙ to-node (o .formed) x (s .label) y (p y))
       ∙ sym (ap (λ (b : Bool). g .shown x && b) (exists-step g qs s ss x) ∙ from-node (o .formed) x (s .label) p)))
@@ -118,7 +118,7 @@ module _ {g : Graph} {t : Tables} (o : TablesOf g t) {qs : List NodeExpr} {m : �
       let n = g .size in
       let q = holds g (named qs (s .test)) in
       let r = reach g (spellWay qs ss) in
-      let d = gather-is g (o .formed) (t .count) (t .froms) (t .labels) (t .tos) (o .links) (s .label) (λ y. g .shown y && q y) r
+      let d = gather-is g (t .count) (t .froms) (t .labels) (t .tos) (o .inside) (o .links) (s .label) (λ y. g .shown y && q y) r
       (endRows (forward t) ws ss) (way-rows ss (b .1)) 64 (o .few) in
       rw (k .word (s .test) (b .0))
       (record {

@@ -7,7 +7,7 @@ use Prim.Native.Nat.{ℕ, zero, suc, _+_, _^_, _≤_, _<_}
 use lib.Bits.{bitAnd, bitOr, bitXor}
 use lib.ListN.{getD, set}
 use Rattle.theory.specs.Search.{list}
-use Rattle.theory.specs.Graph.{Comparison, same, differ, Graph, Link, WellFormed}
+use Rattle.theory.specs.Graph.{Comparison, same, differ, Graph, Link, Inside, has, linked, WellFormed}
 use Rattle.theory.specs.Expression.{NodeExpr}
 use Rattle.words.specs.Words.{bit, wordOf}
 use Rattle.sheet.specs.Entry.{Step, Entry, truth, negation, conjunction, disjunction, way, comparison, firstWay, secondWay, named}
@@ -99,12 +99,13 @@ evaluated t s upto ws = evaluatedFrom t s 0 headSize upto ws
 
 -- ---- what the functions need
 
--- The tables are those of a graph.
+-- The tables are those of a graph: they have its links, in any order.
 pub record TablesOf (g : Graph) (t : Tables) : Type 0 where
   pub formed : WellFormed g
   pub few : g .size ≤ 64
   pub every : t .every ≡ wordOf (g .size) (g .shown)
-  pub links : forward t ≡ g .links
+  pub inside : Inside (g .size) (forward t)
+  pub links : (x a y : ℕ) → has (forward t) x a y ≡ linked g x a y
   pub rows : (c : Comparison) → Rows (g .size) (g .ends c) (rowsFor t c)
 
 -- The first m words are those of the expressions.

@@ -9,6 +9,7 @@ ghost use Rattle.sheet.specs.Sheet.{entryAt};
 ghost use Rattle.sheet.specs.Reading.{stepsOf, HasNumber};
 ghost use Rattle.sheet.specs.Known.{WayKnown, EntryKnown, EntriesFit};
 ghost use Rattle.edges.specs.Edges.{edges, Held, anyPasses};
+ghost use Rattle.edges.specs.Groups.{total, Grouped};
 ghost use Rattle.words.specs.Words.{bit};
 ghost use Rattle.evaluate.specs.Evaluation.{tables, plainWord, wayWord, endRows, comparisonWord, pairWord, entryWord, evaluated};
 use sheet::Question;
@@ -54,7 +55,7 @@ fn plain_word(every: u64, sheet: &[u8], at: usize, known: &[u64]) -> u64
 // The nodes with a way of the steps, from the last step to the first over one word.
 fn way_word(
     every: u64,
-    count: usize,
+    starts: &[u16; 65],
     from: &[u8; 512],
     labels: &[u16; 512],
     to: &[u8; 512],
@@ -62,8 +63,8 @@ fn way_word(
     way: sheet::Steps,
     known: &[u64],
 ) -> u64
-    requires { ⌜ Held count (now from) (now to) × WayKnown (now sheet) way (length (now known)) ⌝ }
-    ensures { λ r. ⌜ r ≡ wayWord every (edges count (now (to .entry)) (now (labels .entry)) (now (from .entry))) (now (known .entry)) (stepsOf (now (sheet .entry)) way) ⌝ }
+    requires { ⌜ Held (total (now starts)) (now from) (now to) × Grouped (now starts) (now labels) × WayKnown (now sheet) way (length (now known)) ⌝ }
+    ensures { λ r. ⌜ r ≡ wayWord every (edges (total (now (starts .entry))) (now (to .entry)) (now (labels .entry)) (now (from .entry))) (now (known .entry)) (stepsOf (now (sheet .entry)) way) ⌝ }
 {
     let mut out = every;
     let mut left = way.count;
@@ -71,7 +72,7 @@ fn way_word(
         left -= 1;
         let label = sheet::label(sheet, way, left);
         let tested = tested_word(sheet, way, left, known);
-        out = edges::image(count, to, labels, from, label, words::meet(tested, out));
+        out = edges::image(starts, to, labels, from, label, words::meet(tested, out));
     }
     out
 }
@@ -91,7 +92,7 @@ fn singles() -> [u64; 64]
 
 // For each node the ends of the ways of the steps from it, from the last step to the first for all nodes together.
 fn end_rows(
-    count: usize,
+    starts: &[u16; 65],
     from: &[u8; 512],
     labels: &[u16; 512],
     to: &[u8; 512],
@@ -99,8 +100,8 @@ fn end_rows(
     way: sheet::Steps,
     known: &[u64],
 ) -> [u64; 64]
-    requires { ⌜ Held count (now from) (now to) × WayKnown (now sheet) way (length (now known)) ⌝ }
-    ensures { λ r. ⌜ r ≡ endRows (edges count (now (from .entry)) (now (labels .entry)) (now (to .entry))) (now (known .entry)) (stepsOf (now (sheet .entry)) way) ⌝ }
+    requires { ⌜ Held (total (now starts)) (now from) (now to) × Grouped (now starts) (now labels) × WayKnown (now sheet) way (length (now known)) ⌝ }
+    ensures { λ r. ⌜ r ≡ endRows (edges (total (now (starts .entry))) (now (from .entry)) (now (labels .entry)) (now (to .entry))) (now (known .entry)) (stepsOf (now (sheet .entry)) way) ⌝ }
 {
     let mut rows = singles();
     let mut left = way.count;
@@ -108,7 +109,7 @@ fn end_rows(
         left -= 1;
         let label = sheet::label(sheet, way, left);
         let tested = tested_word(sheet, way, left, known);
-        rows = edges::gather(count, from, labels, to, label, tested, &rows);
+        rows = edges::gather(starts, from, labels, to, label, tested, &rows);
     }
     rows
 }
@@ -143,7 +144,7 @@ fn comparison_word(every: u64, rows: &[u64; 64], firsts: &[u64; 64], seconds: &[
 // The word of the same or differ at `at`, from the rows of that comparison.
 fn pair_word(
     every: u64,
-    count: usize,
+    starts: &[u16; 65],
     from: &[u8; 512],
     labels: &[u16; 512],
     to: &[u8; 512],
@@ -152,20 +153,20 @@ fn pair_word(
     at: usize,
     known: &[u64],
 ) -> u64
-    requires { ⌜ Held count (now from) (now to) × EntryKnown (now sheet) at (length (now known)) × (5 ≤ kindOf (entryAt (now sheet) at)) ⌝ }
-    ensures { λ r. ⌜ r ≡ pairWord every (now (rows .entry)) (edges count (now (from .entry)) (now (labels .entry)) (now (to .entry))) (now (known .entry)) (entryAt (now (sheet .entry)) at) ⌝ }
+    requires { ⌜ Held (total (now starts)) (now from) (now to) × Grouped (now starts) (now labels) × EntryKnown (now sheet) at (length (now known)) × (5 ≤ kindOf (entryAt (now sheet) at)) ⌝ }
+    ensures { λ r. ⌜ r ≡ pairWord every (now (rows .entry)) (edges (total (now (starts .entry))) (now (from .entry)) (now (labels .entry)) (now (to .entry))) (now (known .entry)) (entryAt (now (sheet .entry)) at) ⌝ }
 {
     let first = sheet::first_way(sheet, at);
     let second = sheet::second_way(sheet, at);
-    let firsts = end_rows(count, from, labels, to, sheet, first, known);
-    let seconds = end_rows(count, from, labels, to, sheet, second, known);
+    let firsts = end_rows(starts, from, labels, to, sheet, first, known);
+    let seconds = end_rows(starts, from, labels, to, sheet, second, known);
     comparison_word(every, rows, &firsts, &seconds)
 }
 
 // The word of the entry at `at`, from the words of the entries before it.
 fn entry_word(
     every: u64,
-    count: usize,
+    starts: &[u16; 65],
     from: &[u8; 512],
     labels: &[u16; 512],
     to: &[u8; 512],
@@ -175,8 +176,8 @@ fn entry_word(
     at: usize,
     known: &[u64],
 ) -> u64
-    requires { ⌜ Held count (now from) (now to) × EntryKnown (now sheet) at (length (now known)) ⌝ }
-    ensures { λ r. ⌜ r ≡ entryWord (tables every count (now (from .entry)) (now (labels .entry)) (now (to .entry)) (now (same .entry)) (now (differ .entry))) (now (known .entry)) (entryAt (now (sheet .entry)) at) ⌝ }
+    requires { ⌜ Held (total (now starts)) (now from) (now to) × Grouped (now starts) (now labels) × EntryKnown (now sheet) at (length (now known)) ⌝ }
+    ensures { λ r. ⌜ r ≡ entryWord (tables every (total (now (starts .entry))) (now (from .entry)) (now (labels .entry)) (now (to .entry)) (now (same .entry)) (now (differ .entry))) (now (known .entry)) (entryAt (now (sheet .entry)) at) ⌝ }
 {
     let kind = sheet::kind(sheet, at);
     if kind < sheet::KIND_WAY {
@@ -184,18 +185,18 @@ fn entry_word(
     }
     if kind == sheet::KIND_WAY {
         let way = sheet::first_way(sheet, at);
-        return way_word(every, count, from, labels, to, sheet, way, known);
+        return way_word(every, starts, from, labels, to, sheet, way, known);
     }
     if kind == sheet::KIND_SAME {
-        return pair_word(every, count, from, labels, to, same, sheet, at, known);
+        return pair_word(every, starts, from, labels, to, same, sheet, at, known);
     }
-    pair_word(every, count, from, labels, to, differ, sheet, at, known)
+    pair_word(every, starts, from, labels, to, differ, sheet, at, known)
 }
 
 // Writes the words of the first `upto` entries of an accepted sheet, from the front, over the nodes of `every`.
 pub fn evaluate(
     every: u64,
-    count: usize,
+    starts: &[u16; 65],
     from: &[u8; 512],
     labels: &[u16; 512],
     to: &[u8; 512],
@@ -205,15 +206,15 @@ pub fn evaluate(
     upto: usize,
     known: &mut [u64],
 )
-    requires { ⌜ Held count (now from) (now to) × EntriesFit (now sheet) upto (length (now known)) ⌝ }
-    ensures { λ _. ⌜ now (known .exit) ≡ evaluated (tables every count (now (from .entry)) (now (labels .entry)) (now (to .entry)) (now (same .entry)) (now (differ .entry))) (now (sheet .entry)) upto (now (known .entry)) ⌝ }
+    requires { ⌜ Held (total (now starts)) (now from) (now to) × Grouped (now starts) (now labels) × EntriesFit (now sheet) upto (length (now known)) ⌝ }
+    ensures { λ _. ⌜ now (known .exit) ≡ evaluated (tables every (total (now (starts .entry))) (now (from .entry)) (now (labels .entry)) (now (to .entry)) (now (same .entry)) (now (differ .entry))) (now (sheet .entry)) upto (now (known .entry)) ⌝ }
 {
     let mut at = sheet::entry_start(sheet, Question(0));
     let mut k = 0;
     while k < upto {
         known[k] = entry_word(
             every,
-            count,
+            starts,
             from,
             labels,
             to,

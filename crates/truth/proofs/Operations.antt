@@ -23,9 +23,12 @@ use Rattle.sheet.specs.PassedLaws.{accepted-head}
 use Rattle.sheet.specs.AcceptedLaws.{answer-accepting, answer-refusing}
 use Rattle.sheet.specs.declared.SheetAnswer.{SheetAnswer}
 use Rattle.sheet.specs.declared.SheetAnswer.the-variants.{Accepted, Refused}
-use Rattle.edges.specs.Edges.{Held, Rows}
-use Rattle.edges.specs.BookEdges.{Loaded, passing}
+use Rattle.edges.specs.Edges.{Rows}
+use Rattle.edges.specs.Groups.{total}
+use Rattle.edges.specs.BookEdges.{passing}
 use Rattle.edges.specs.BookLaws.{passing-rows}
+use Rattle.edge_groups.specs.Groups.{LoadedInGroups}
+use Rattle.edge_groups.specs.Laws.{inside-same}
 use Rattle.sheet.specs.Known.{EntriesFit}
 use Rattle.evaluate.specs.QuestionWord.{questionWord}
 use Rattle.evaluate.specs.Evaluation.{tables, rowsFor, evaluated, TablesOf}
@@ -55,28 +58,26 @@ seen-word b h n full r d e m =
     (wordOf-is n r (λ x. not (hides h x)) (omega (arith, m .most))
     (λ x l. m .bits x ∙ ap (λ (y : Bool). y && not (bit h x)) (ap (λ w. bit w x) (e ∙ full-wordOf n) ∙ bit-wordOf-lt n (λ i. true) x l)))
 
-module _ (b : List ℕ) (h : ℕ) (fs ls ts : List ℕ) (count : ℕ) (o : Loaded h b count fs ls ts) where
-  pub loaded-held : Held count fs ts
-  loaded-held = o .held
-
+module _ (b : List ℕ) (h : ℕ) (starts fs ls ts : List ℕ) (o : LoadedInGroups h b starts fs ls ts) where
   module _ (every : ℕ) (e : every ≡ seenWord h b) (sames differs : List ℕ) (f : sames ≡ passing h b same)
       (g : differs ≡ passing h b differ) (r : bookRefusal b ≡ 0) where
-    tables-of : TablesOf (seenOf h b) (tables every count fs ls ts sames differs)
+    tables-of : TablesOf (seenOf h b) (tables every (total starts) fs ls ts sames differs)
     unfolding seenWord
     tables-of =
         record {
           formed = seen-graph h b r;
           few = book-sizes b r .few;
           every = e;
-          links = o .is;
+          inside = inside-same (cellsOf b) _ _ (o .links) (seen-graph h b r .inside);
+          links = o .links;
           rows = passes;
         }
       where
-        passes : (c : Comparison) → Rows (seenOf h b .size) (seenOf h b .ends c) (rowsFor (tables every count fs ls ts sames differs) c)
+        passes : (c : Comparison) → Rows (seenOf h b .size) (seenOf h b .ends c) (rowsFor (tables every (total starts) fs ls ts sames differs) c)
         passes same = rw f (passing-rows h b same r)
         passes differ = rw g (passing-rows h b differ r)
 
-    pub words-written : (s ws ws′ : List ℕ) (upto : ℕ) → EntriesFit s upto (length ws) → ws′ ≡ evaluated (tables every count fs ls ts sames differs) s upto ws
+    pub words-written : (s ws ws′ : List ℕ) (upto : ℕ) → EntriesFit s upto (length ws) → ws′ ≡ evaluated (tables every (total starts) fs ls ts sames differs) s upto ws
         → ws′ ≡ firstWords b h s upto ws
     unfolding firstWords
     words-written s ws ws′ upto m i = i ∙ words-evaluated (seenOf h b) s (m .good) tables-of ws upto (m .entries) (m .places)

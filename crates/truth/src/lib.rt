@@ -65,13 +65,13 @@ fn write_words(book: &[u8], hidden: u64, sheet: &[u8], upto: usize, words: &mut 
     let mut from = [0u8; 512];
     let mut labels = [0u16; 512];
     let mut to = [0u8; 512];
-    let count = edges::load(book, hidden, &mut from, &mut labels, &mut to);
+    let starts = edge_groups::load(book, hidden, &mut from, &mut labels, &mut to);
     let same = edges::passing(book, hidden, edges::Comparison::Same);
     let differ = edges::passing(book, hidden, edges::Comparison::Differ);
     let every = seen(book, hidden);
     evaluate::evaluate(
         every,
-        count,
+        &starts,
         &from,
         &labels,
         &to,

@@ -3,21 +3,27 @@ use mathlib.Core.Path.{_≡_}
 use mathlib.Core.Logic.{⊎-elim}
 use Prim.Native.Nat.{_-_, _≤_}
 use native.Mathlib.Omega.{arith}
+use borrow.Author.Needs.{needs}
 use Rattle.edges.specs.Edges.{edges, gather, emptyRows}
-use Rattle.edges.proofs.Laws.{low-fits, low-scaled, from-below, to-below, rest, gather-start, gather-end, gather-next, gather-other, gather-outside}
+use Rattle.edges.specs.Groups.{total}
+use Rattle.edges.proofs.Laws.{low-fits, low-scaled, from-below, to-below, rest, until-within, start-within, gather-start, gather-end, gather-next, gather-other, gather-outside}
 use Rattle.edges.proofs.gather.Statement.{statement}
 use Rattle.edges.proofs.gather.Tie as tie
 
 abbrev Inv-loop : tie.InvT-loop
-Inv-loop count from labels to label w later rows₀ k₀ rows k =
-    (gather (rest count from labels to k) label w later rows ≡ gather (edges count from labels to) label w later (emptyRows 64)) × (k ≤ count)
+Inv-loop starts from labels to label w later until k₀ rows₀ k rows =
+    (gather (rest (total starts) from labels to k) label w later rows ≡ gather (edges (total starts) from labels to) label w later (emptyRows 64))
+    × (k ≤ total starts) × (until ≤ total starts) × (total starts ≤ 512)
 
 abbrev μ-loop : tie.MeasureT-loop
-μ-loop count from labels to label w later rows₀ k₀ rows k = count - k
+μ-loop starts from labels to label w later until k₀ rows₀ k rows = until - k
+
+group-with-requires : tie.Need-group-with-requires Inv-loop μ-loop
+group-with-requires c κs = search needs
 
 loop-holds : tie.Need-loop-holds Inv-loop μ-loop
 unfolding emptyRows
-loop-holds c = (gather-start _ _ _ _ _ _ _ _, omega arith)
+loop-holds c = (search gather-start, search start-within, search until-within, search needs)
 
 mul-if1 : tie.Need-mul-if1 Inv-loop μ-loop
 mul-if1 c = omega arith
@@ -69,7 +75,11 @@ loop-less c = omega arith
 
 loop-again : tie.Need-loop-again Inv-loop μ-loop
 loop-again c =
-    ⊎-elim (λ w. (search gather-next, omega arith)) (⊎-elim (λ w. (search gather-outside, omega arith)) (λ w. (search gather-other, omega arith)))
+    let i = c .before .before .before .loop .inv in
+    let h = c .before .before .loop-test .taken in
+    ⊎-elim (λ w. (search (gather-next _ _ _ _ _ _ _ _ _ _ (i .0) _ h (i .2)), omega arith, omega arith, omega arith))
+    (⊎-elim (λ w. (search (gather-outside _ _ _ _ _ _ _ _ _ _ (i .0) _ h (i .2)), omega arith, omega arith, omega arith))
+    (λ w. (search (gather-other _ _ _ _ _ _ _ _ _ _ (i .0) _ h (i .2)), omega arith, omega arith, omega arith)))
     (c .if1 .came)
 
 returns : tie.Need-returns Inv-loop μ-loop
@@ -81,6 +91,7 @@ gather-spec =
     (tie.spec
     Inv-loop
     μ-loop
+    group-with-requires
     loop-holds
     mul-if1
     element-copy-out-if1

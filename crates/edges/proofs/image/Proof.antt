@@ -3,19 +3,26 @@ use mathlib.Core.Path.{_≡_}
 use mathlib.Core.Logic.{⊎-elim}
 use Prim.Native.Nat.{_-_, _≤_}
 use native.Mathlib.Omega.{arith}
+use borrow.Author.Needs.{needs}
 use Rattle.edges.specs.Edges.{edges, image}
-use Rattle.edges.proofs.Laws.{from-below, to-below, rest, image-start, image-end, image-next, image-skip}
+use Rattle.edges.specs.Groups.{total}
+use Rattle.edges.proofs.Laws.{from-below, to-below, rest, until-within, start-within, image-start, image-end, image-next, image-skip}
 use Rattle.edges.proofs.image.Statement.{statement}
 use Rattle.edges.proofs.image.Tie as tie
 
 abbrev Inv-loop : tie.InvT-loop
-Inv-loop count from labels to label w out₀ k₀ out k = (image (rest count from labels to k) label w out ≡ image (edges count from labels to) label w 0) × (k ≤ count)
+Inv-loop starts from labels to label w until k₀ out₀ k out =
+    (image (rest (total starts) from labels to k) label w out ≡ image (edges (total starts) from labels to) label w 0) × (k ≤ total starts)
+    × (until ≤ total starts) × (total starts ≤ 512)
 
 abbrev μ-loop : tie.MeasureT-loop
-μ-loop count from labels to label w out₀ k₀ out k = count - k
+μ-loop starts from labels to label w until k₀ out₀ k out = until - k
+
+group-with-requires : tie.Need-group-with-requires Inv-loop μ-loop
+group-with-requires c κs = search needs
 
 loop-holds : tie.Need-loop-holds Inv-loop μ-loop
-loop-holds c = (search image-start, omega arith)
+loop-holds c = (search image-start, search start-within, search until-within, search needs)
 
 element-copy-out-moved : tie.Need-element-copy-out-moved Inv-loop μ-loop
 element-copy-out-moved c = omega arith
@@ -40,7 +47,7 @@ loop-less c = omega arith
 
 loop-again : tie.Need-loop-again Inv-loop μ-loop
 loop-again c =
-    ⊎-elim (λ w. (search image-next, omega arith)) (λ w. (search image-skip, omega arith)) (c .if1 .came)
+    ⊎-elim (λ w. (search image-next, omega arith, omega arith, omega arith)) (λ w. (search image-skip, omega arith, omega arith, omega arith)) (c .if1 .came)
 
 returns : tie.Need-returns Inv-loop μ-loop
 returns c = search image-end
@@ -51,6 +58,7 @@ image-spec =
     (tie.spec
     Inv-loop
     μ-loop
+    group-with-requires
     loop-holds
     element-copy-out-moved
     element-copy-out-moved-2

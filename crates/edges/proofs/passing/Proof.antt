@@ -10,20 +10,23 @@ use Rattle.edges.proofs.passing.Statement.{statement}
 use Rattle.edges.proofs.passing.Tie as tie
 
 abbrev Inv-loop : tie.InvT-loop
-Inv-loop book hidden comparison n rows₀ x₀ rows x = (rows ≡ passingRows hidden book (comparisonOf comparison) x) × (x ≤ n) × (n ≤ 64)
+Inv-loop book hidden comparison n list rows₀ x₀ rows x = (rows ≡ passingRows hidden book (comparisonOf comparison) x) × (x ≤ n) × (n ≤ 64)
 
 abbrev μ-loop : tie.MeasureT-loop
-μ-loop book hidden comparison n rows₀ x₀ rows x = n - x
+μ-loop book hidden comparison n list rows₀ x₀ rows x = n - x
 
 cells-of-requires : tie.Need-cells-of-requires Inv-loop μ-loop
 cells-of-requires c κs = search book-long
+
+recordings-requires : tie.Need-recordings-requires Inv-loop μ-loop
+recordings-requires c κs = search needs
 
 loop-holds : tie.Need-loop-holds Inv-loop μ-loop
 unfolding emptyRows
 loop-holds c = (rows-start _ _ _, omega arith, search cells-few)
 
 passing-with-requires : tie.Need-passing-with-requires Inv-loop μ-loop
-passing-with-requires c κs = (search needs, omega arith)
+passing-with-requires c κs = omega arith
 
 mul-rows : tie.Need-mul-rows Inv-loop μ-loop
 mul-rows c = omega arith
@@ -50,6 +53,7 @@ passing-spec =
     Inv-loop
     μ-loop
     cells-of-requires
+    recordings-requires
     loop-holds
     passing-with-requires
     mul-rows

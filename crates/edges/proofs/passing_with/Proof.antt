@@ -4,28 +4,31 @@ use mathlib.Core.Logic.{⊎-elim}
 use Prim.Native.Nat.{_-_, _≤_}
 use native.Mathlib.Omega.{arith}
 use borrow.Author.Needs.{needs}
-use Rattle.edges.specs.BookEdges.{comparisonOf, passingTo}
-use Rattle.edges.proofs.Books.{book-long, cells-few, word-none, word-more, word-skip, word-all}
+use Rattle.edges.specs.BookEdges.{comparisonOf, passingIn}
+use Rattle.edges.proofs.Books.{word-none, word-more, word-skip, word-all}
 use Rattle.edges.proofs.passing_with.Statement.{statement}
 use Rattle.edges.proofs.passing_with.Tie as tie
 
 abbrev Inv-loop : tie.InvT-loop
-Inv-loop book hidden comparison x n here out₀ y₀ out y = (out ≡ passingTo hidden book (comparisonOf comparison) x y) × (y ≤ n) × (n ≤ 64)
+Inv-loop list n comparison x here out₀ y₀ out y = (out ≡ passingIn list (comparisonOf comparison) x y) × (y ≤ n) × (n ≤ 64)
 
 abbrev μ-loop : tie.MeasureT-loop
-μ-loop book hidden comparison x n here out₀ y₀ out y = n - y
+μ-loop list n comparison x here out₀ y₀ out y = n - y
 
-cells-of-requires : tie.Need-cells-of-requires Inv-loop μ-loop
-cells-of-requires c κs = search book-long
+mul-t9 : tie.Need-mul-t9 Inv-loop μ-loop
+mul-t9 c = omega arith
 
-recording-seen-requires : tie.Need-recording-seen-requires Inv-loop μ-loop
-recording-seen-requires c κs = search needs
+element-copy-out-t12 : tie.Need-element-copy-out-t12 Inv-loop μ-loop
+element-copy-out-t12 c = omega arith
 
 loop-holds : tie.Need-loop-holds Inv-loop μ-loop
-loop-holds c = (search word-none, omega arith, search cells-few)
+loop-holds c = (search word-none, omega arith, search needs)
 
-recording-seen-requires-2 : tie.Need-recording-seen-requires-2 Inv-loop μ-loop
-recording-seen-requires-2 c κs = (search needs, omega arith)
+mul-t14 : tie.Need-mul-t14 Inv-loop μ-loop
+mul-t14 c = omega arith
+
+element-copy-out-t17 : tie.Need-element-copy-out-t17 Inv-loop μ-loop
+element-copy-out-t17 c = omega arith
 
 passes-requires : tie.Need-passes-requires Inv-loop μ-loop
 passes-requires c κs = search needs
@@ -55,10 +58,11 @@ passing-with-spec =
     (tie.spec
     Inv-loop
     μ-loop
-    cells-of-requires
-    recording-seen-requires
+    mul-t9
+    element-copy-out-t12
     loop-holds
-    recording-seen-requires-2
+    mul-t14
+    element-copy-out-t17
     passes-requires
     cast-with
     with-requires

@@ -6,6 +6,7 @@ use borrow.Author.Needs.{needs}
 use lib.ListN.{length, drop}
 use Rattle.sheet.specs.Reading.{stepsOf}
 use Rattle.edges.specs.Edges.{edges, Held}
+use Rattle.edges.specs.Groups.{total, Grouped}
 use Rattle.sheet.specs.Known.{WayKnown}
 use Rattle.evaluate.specs.Evaluation.{endRows}
 use Rattle.sheet.specs.KnownLaws.{has-step}
@@ -14,17 +15,17 @@ use Rattle.evaluate.proofs.end_rows.Statement.{statement}
 use Rattle.evaluate.proofs.end_rows.Tie as tie
 
 abbrev Inv-loop : tie.InvT-loop
-Inv-loop count from labels to sheet way known rows₀ left₀ rows left = (rows ≡ endRows (edges count from labels to) known (drop left (stepsOf sheet way))) × (left ≤ way .count)
-    × Held count from to × WayKnown sheet way (length known)
+Inv-loop starts from labels to sheet way known rows₀ left₀ rows left = (rows ≡ endRows (edges (total starts) from labels to) known (drop left (stepsOf sheet way))) × (left ≤ way .count)
+    × Held (total starts) from to × Grouped starts labels × WayKnown sheet way (length known)
 
 abbrev μ-loop : tie.MeasureT-loop
-μ-loop count from labels to sheet way known rows₀ left₀ rows left = left
+μ-loop starts from labels to sheet way known rows₀ left₀ rows left = left
 
 singles-requires : tie.Need-singles-requires Inv-loop μ-loop
 singles-requires c κs = search needs
 
 loop-holds : tie.Need-loop-holds Inv-loop μ-loop
-loop-holds c = (search rows-start, search needs, search needs, search needs)
+loop-holds c = (search rows-start, search needs, search needs, search needs, search needs)
 
 sub-left : tie.Need-sub-left Inv-loop μ-loop
 sub-left c = omega arith
@@ -42,7 +43,7 @@ loop-less : tie.Need-loop-less Inv-loop μ-loop
 loop-less c = omega arith
 
 loop-again : tie.Need-loop-again Inv-loop μ-loop
-loop-again c = (search rows-next, omega arith, search needs, search needs)
+loop-again c = (search rows-next, omega arith, search needs, search needs, search needs)
 
 returns : tie.Need-returns Inv-loop μ-loop
 returns c = search rows-end

@@ -18,7 +18,7 @@ first-way-requires : tie.Need-first-way-requires
 first-way-requires c κs = search needs
 
 way-word-requires : tie.Need-way-word-requires
-way-word-requires c κs = (search needs, search first-known)
+way-word-requires c κs = (search needs, search needs, search first-known)
 
 returns-2 : tie.Need-returns-2
 returns-2 c = search entry-way

@@ -6,6 +6,7 @@ use borrow.Author.Needs.{needs}
 use lib.ListN.{length}
 use Rattle.sheet.specs.Sheet.{entryStart}
 use Rattle.edges.specs.Edges.{Held}
+use Rattle.edges.specs.Groups.{total, Grouped}
 use Rattle.sheet.specs.Known.{EntriesFit}
 use Rattle.evaluate.specs.Evaluation.{tables, evaluatedFrom, evaluated}
 use Rattle.sheet.specs.KnownLaws.{fit-first, fit-known, fit-readable, start-next}
@@ -14,20 +15,20 @@ use Rattle.evaluate.proofs.evaluate.Statement.{statement}
 use Rattle.evaluate.proofs.evaluate.Tie as tie
 
 abbrev Inv-loop : tie.InvT-loop
-Inv-loop every count from labels to same differ sheet upto known₀ at₀ k₀ known at k = (evaluatedFrom (tables every count from labels to same differ) sheet k at (upto - k) known ≡ evaluated (tables every count from labels to same differ) sheet upto known₀)
-    × (at ≡ entryStart sheet k) × (k ≤ upto) × (length known ≡ length known₀) × Held count from to × EntriesFit sheet upto (length known₀)
+Inv-loop every starts from labels to same differ sheet upto known₀ at₀ k₀ known at k = (evaluatedFrom (tables every (total starts) from labels to same differ) sheet k at (upto - k) known ≡ evaluated (tables every (total starts) from labels to same differ) sheet upto known₀)
+    × (at ≡ entryStart sheet k) × (k ≤ upto) × (length known ≡ length known₀) × Held (total starts) from to × Grouped starts labels × EntriesFit sheet upto (length known₀)
 
 abbrev μ-loop : tie.MeasureT-loop
-μ-loop every count from labels to same differ sheet upto known₀ at₀ k₀ known at k = upto - k
+μ-loop every starts from labels to same differ sheet upto known₀ at₀ k₀ known at k = upto - k
 
 entry-start-requires : tie.Need-entry-start-requires Inv-loop μ-loop
 entry-start-requires c κs = search fit-first
 
 loop-holds : tie.Need-loop-holds Inv-loop μ-loop
-loop-holds c = (search evaluate-start, search needs, omega arith, search needs, search needs, search needs)
+loop-holds c = (search evaluate-start, search needs, omega arith, search needs, search needs, search needs, search needs)
 
 entry-word-requires : tie.Need-entry-word-requires Inv-loop μ-loop
-entry-word-requires c κs = (search needs, search fit-known)
+entry-word-requires c κs = (search needs, search needs, search fit-known)
 
 mul-known : tie.Need-mul-known Inv-loop μ-loop
 mul-known c = search needs
@@ -45,7 +46,7 @@ loop-less : tie.Need-loop-less Inv-loop μ-loop
 loop-less c = omega arith
 
 loop-again : tie.Need-loop-again Inv-loop μ-loop
-loop-again c = (search evaluate-next, search start-next, omega arith, search needs, search needs, search needs)
+loop-again c = (search evaluate-next, search start-next, omega arith, search needs, search needs, search needs, search needs)
 
 same-length : tie.Need-same-length Inv-loop μ-loop
 same-length c = search needs

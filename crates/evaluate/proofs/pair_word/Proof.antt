@@ -12,10 +12,10 @@ second-way-requires : tie.Need-second-way-requires
 second-way-requires c κs = search needs
 
 end-rows-requires : tie.Need-end-rows-requires
-end-rows-requires c κs = (search needs, search first-known)
+end-rows-requires c κs = (search needs, search needs, search first-known)
 
 end-rows-requires-2 : tie.Need-end-rows-requires-2
-end-rows-requires-2 c κs = (search needs, search second-known)
+end-rows-requires-2 c κs = (search needs, search needs, search second-known)
 
 comparison-word-requires : tie.Need-comparison-word-requires
 comparison-word-requires c κs = search needs

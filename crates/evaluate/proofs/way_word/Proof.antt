@@ -6,6 +6,7 @@ use borrow.Author.Needs.{needs}
 use lib.ListN.{length, drop}
 use Rattle.sheet.specs.Reading.{stepsOf}
 use Rattle.edges.specs.Edges.{edges, Held}
+use Rattle.edges.specs.Groups.{total, Grouped}
 use Rattle.edges.specs.Laws.{held-turned}
 use Rattle.sheet.specs.Known.{WayKnown}
 use Rattle.evaluate.specs.Evaluation.{wayWord}
@@ -15,14 +16,14 @@ use Rattle.evaluate.proofs.way_word.Statement.{statement}
 use Rattle.evaluate.proofs.way_word.Tie as tie
 
 abbrev Inv-loop : tie.InvT-loop
-Inv-loop every count from labels to sheet way known out₀ left₀ out left = (out ≡ wayWord every (edges count to labels from) known (drop left (stepsOf sheet way))) × (left ≤ way .count) × (out < 2 ^ 64)
-    × Held count from to × WayKnown sheet way (length known)
+Inv-loop every starts from labels to sheet way known out₀ left₀ out left = (out ≡ wayWord every (edges (total starts) to labels from) known (drop left (stepsOf sheet way))) × (left ≤ way .count) × (out < 2 ^ 64)
+    × Held (total starts) from to × Grouped starts labels × WayKnown sheet way (length known)
 
 abbrev μ-loop : tie.MeasureT-loop
-μ-loop every count from labels to sheet way known out₀ left₀ out left = left
+μ-loop every starts from labels to sheet way known out₀ left₀ out left = left
 
 loop-holds : tie.Need-loop-holds Inv-loop μ-loop
-loop-holds c = (search way-start, search needs, search needs, search needs, search needs)
+loop-holds c = (search way-start, search needs, search needs, search needs, search needs, search needs)
 
 sub-left : tie.Need-sub-left Inv-loop μ-loop
 sub-left c = omega arith
@@ -37,13 +38,13 @@ meet-requires : tie.Need-meet-requires Inv-loop μ-loop
 meet-requires c κs = search needs
 
 image-requires : tie.Need-image-requires Inv-loop μ-loop
-image-requires c κs = search held-turned
+image-requires c κs = (search held-turned, search needs)
 
 loop-less : tie.Need-loop-less Inv-loop μ-loop
 loop-less c = omega arith
 
 loop-again : tie.Need-loop-again Inv-loop μ-loop
-loop-again c = (search way-next, omega arith, search needs, search needs, search needs)
+loop-again c = (search way-next, omega arith, search needs, search needs, search needs, search needs)
 
 returns : tie.Need-returns Inv-loop μ-loop
 returns c = search way-end

@@ -1,6 +1,6 @@
 -- `truth::write_words` meets its contract. The lists and rows are the tables of the book.
 use borrow.Author.Needs.{needs}
-use Rattle.truth.proofs.Operations.{loaded-held, words-written}
+use Rattle.truth.proofs.Operations.{words-written}
 use Rattle.truth.proofs.write_words.Statement.{statement}
 use Rattle.truth.proofs.write_words.Tie as tie
 
@@ -17,7 +17,7 @@ seen-requires : tie.Need-seen-requires
 seen-requires c κs = search needs
 
 evaluate-requires : tie.Need-evaluate-requires
-evaluate-requires c κs = (search loaded-held, search needs)
+evaluate-requires c κs = search needs
 
 same-length : tie.Need-same-length
 same-length c = search needs
