@@ -224,7 +224,7 @@ const shade = d => {
   return `rgb(${mix(255, 222)},${mix(247, 128)},${mix(234, 35)})`;
 };
 const near = new Set(D.closest.map(([i, j]) => i * m + j));
-let rowText = [], columnText = [], cursor, cross;
+let rowText = [], columnText = [], rowNames, cursor, cross;
 function glyph(at, x, y, s, parent) {
   const d = D.depth[at], c = s / 2, frame = near.has(at), square = {x: x + .5, y: y + .5, width: s - 1, height: s - 1};
   if (d === 0) {
@@ -239,14 +239,16 @@ function glyph(at, x, y, s, parent) {
     parent.append(t);
   }
 }
-function drawNames(root) {
+function drawNames(root) { /* those of the rows on a ground of their own, which stays in sight where the map scrolls */
   const alone = D.alone.map(a => new Set(a));
   rowText = []; columnText = [];
+  rowNames = svg("g", {class: "names"});
+  rowNames.append(svg("rect", {x: 0, y: 0, width: LEFT - 1, height: TOP + n * S + 4}));
   order[0].forEach((i, r) => {
     const t = svg("text", {x: LEFT - 5, y: TOP + r * S + S / 2 + 3.3, "text-anchor": "end"}), name = D.books[0].names[i];
     t.textContent = (named ? brief(name, 15) + " " : "") + num(0, i);
     if (alone[0].has(i)) t.setAttribute("class", "lack");
-    rowText[i] = t; root.append(t);
+    rowText[i] = t; rowNames.append(t);
   });
   order[1].forEach((j, k) => {
     const x = LEFT + k * S + S / 2, t = svg("text", {x, y: TOP - 5, "text-anchor": S > 16 ? "middle" : "start"});
@@ -271,14 +273,20 @@ function draw() {
   });
   cross = [0, 1].map(() => svg("rect", {fill: "none", stroke: "#000", "stroke-opacity": .35}));
   cursor = svg("rect", {class: "cursor", fill: "none", stroke: "#000", "stroke-width": 2.4, rx: 1.5});
-  root.append(...cross, cursor);
+  root.append(...cross, cursor, rowNames);
   root.addEventListener("click", e => { const p = place(e, root); if (p) { choose(...p); box.focus({preventScroll: true}); } });
   root.addEventListener("mousemove", e => readout(place(e, root) || here));
   root.addEventListener("mouseleave", () => readout(here));
   box.replaceChildren(root);
   mark();
 }
+const scale = () => box.scrollWidth / (LEFT + m * S + 4);
+function follow() { /* the names of the rows stay at the left edge of what is seen */
+  rowNames.style.transform = `translateX(${box.scrollLeft / scale()}px)`;
+}
+box.addEventListener("scroll", follow, {passive: true});
 function place(e, root) { /* the pair under the mouse */
+  if (e.target.closest(".names")) return null;
   const r = root.getBoundingClientRect(), f = (LEFT + m * S + 4) / r.width;
   const k = Math.floor(((e.clientX - r.left) * f - LEFT) / S), q = Math.floor(((e.clientY - r.top) * f - TOP) / S);
   return k >= 0 && k < m && q >= 0 && q < n ? [order[0][q], order[1][k]] : null;
@@ -296,8 +304,9 @@ function mark() {
   document.querySelectorAll("#map text.on").forEach(t => t.classList.remove("on"));
   rowText[i].classList.add("on");
   columnText[j].classList.add("on");
-  const x = (LEFT + (k + .5) * S) * box.scrollWidth / (LEFT + m * S + 4); /* a map that scrolls shows the pair */
-  if (x < box.scrollLeft + S || x > box.scrollLeft + box.clientWidth - S) box.scrollLeft = x - box.clientWidth / 2;
+  const x = (LEFT + (k + .5) * S) * scale(), left = LEFT * scale(); /* a map that scrolls shows the pair, right of the names */
+  if (x < box.scrollLeft + left + S || x > box.scrollLeft + box.clientWidth - S) box.scrollLeft = x - (box.clientWidth + left) / 2;
+  follow();
 }
 function choose(i, j, quiet) {
   here = [i, j];

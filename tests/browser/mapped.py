@@ -32,7 +32,7 @@ class Mapped(Tried):
         """They order the map, mark a question's pairs, and show a place."""
         browser, data = self.browser, self.open("example")
         browser.js("document.getElementById('byNumber').click()")
-        first = browser.js("document.querySelector('#map text').textContent")
+        first = browser.js("document.querySelector('#map .names text').textContent")
         self.check("example", first.endswith(" 0"), "in order of numbers", first)
         browser.js("document.querySelector('#s-questions [data-question]').click()")
         marked = browser.js("document.querySelectorAll('#map rect[stroke=\"#6a1b9a\"]').length")

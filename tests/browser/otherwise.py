@@ -11,6 +11,10 @@ BROKEN = """[...document.querySelectorAll('.chip b')].filter(e => e.getBoundingC
 # The widths of the pictures, and whether each shows its cell of the pair.
 PICTURES = """[...document.querySelectorAll('.graph')].map(graph => { const [all, cell] = [graph.parentNode, graph.querySelector('.start')]
   .map(e => e.getBoundingClientRect()); return [graph.getBoundingClientRect().width, cell.left >= all.left && cell.right <= all.right]; })"""
+# Whether the map shows the name of the chosen row, whole, and the chosen square right of the names.
+NAMED = """(() => { const [all, names, name, square] = ['#map', '#map .names rect', '#map .names .on', '#map .cursor']
+  .map(s => document.querySelector(s).getBoundingClientRect());
+  return name.left >= all.left - 1 && name.right <= names.right + 1 && square.left >= names.right - 2 && square.right <= all.right + 2; })()"""
 PRIVATE = [[6, 23, 24, 25], [16, 19, 32, 33]]  # the cells that the page "hidden" hides
 
 
@@ -46,18 +50,19 @@ class Otherwise(Tried):
                                ".map(e => e.innerText || e.textContent)")
 
     def narrow(self, name):
-        """No sideways scrolling at 390 pixels, whatever pair is chosen."""
+        """No sideways scrolling at 390 pixels, whatever pair is chosen; and the map names its rows however far it is scrolled."""
         browser = self.browser
         browser.size(390, 800)
         self.open(name)
         browser.js("document.getElementById('map').focus()")
-        for key in [None, "ArrowDown", "ArrowRight", "PageDown"]:
+        for key in [None, "ArrowDown", "ArrowRight", "PageDown", "End", "ArrowUp", "Home"]:
             if key:
                 browser.key(key)
             wide, room = browser.js(WIDTHS)
             self.check(name, wide <= room, "sideways scrolling at 390 pixels", wide, browser.js(BEYOND))
             broken = browser.js(BROKEN)
             self.check(name, not broken, "numbers of cells are broken at 390 pixels", broken)
+            self.check(name, browser.js(NAMED), "the chosen row is named, and its square is seen, at 390 pixels", key)
             pictures = browser.js(PICTURES)
             self.check(name, all(width > 500 and seen for width, seen in pictures), "the pictures can be read at 390 pixels", pictures)
         self.no_faults(name)
