@@ -2,7 +2,7 @@
 
 use crate::expected::{truth_words, Asked};
 use crate::support::books::{
-    book, chain, example_a_left, example_a_right, link, random_book, Book,
+    book, chain, example_a_left, example_a_right, link, most_links, random_book, silenced, Book,
 };
 use crate::support::hidden::{any_word, hides, masked, Hidden, NOTHING};
 use crate::support::meaning::{sheet_cells, spelled_out};
@@ -25,6 +25,7 @@ pub fn all(tally: &mut Tally) {
     small(tally, random);
     sizes(tally, random);
     large(tally, random);
+    many_labels(tally, random);
     each_step(tally, random);
     deep(tally, random);
     most_entries(tally, random);
@@ -397,6 +398,31 @@ fn large(tally: &mut Tally, random: &mut Random) {
         };
         let sheet = telling_sheet(random, &book, plan);
         let other = other(random, &book, 64);
+        ask(tally, random, &book, &other, &sheet, 1);
+    }
+}
+
+/// Sheets of many steps in books with 17 links or more and several labels, which the library sorts by the remainder of their labels: few labels, and so many
+/// that some have one remainder.
+fn many_labels(tally: &mut Tally, random: &mut Random) {
+    for _ in 0..1_500 {
+        let cells = random.between(2, 24);
+        let labels = random.pick(&[2, 3, 8, 70, 200]);
+        let most = most_links(cells, labels).min(160);
+        let links = random.between(most.min(17), most);
+        let kinds = random.between(1, cells);
+        let book = random_book(random, cells, links, labels, kinds);
+        let book = silenced(random, book);
+        let plan = Plan {
+            bound: random.between(1, 4) as u8,
+            entries: random.between(8, 30),
+            longest: random.pick(&[4, 6, 12]),
+            naming: Naming::Any,
+            denials: true,
+            draws: 2,
+        };
+        let sheet = telling_sheet(random, &book, plan);
+        let other = other(random, &book, 24);
         ask(tally, random, &book, &other, &sheet, 1);
     }
 }

@@ -33,6 +33,8 @@ pub struct Tally {
     none: usize,
     every: usize,
     some: usize,
+    /// Calls of Truth by how links are kept: in groups, or not for few steps, few links or one label.
+    orders: [usize; 4],
 }
 
 impl Tally {
@@ -49,6 +51,7 @@ impl Tally {
             none: 0,
             every: 0,
             some: 0,
+            orders: [0; 4],
         }
     }
 
@@ -58,12 +61,15 @@ impl Tally {
         self.expect_truth(book, hidden, sheet, words, expected, &expected_words);
         let mut plain_words = words.to_vec();
         let written = plain::truth(book, hidden, sheet, &mut plain_words);
-        if written != (expected.refusal == 0) || plain_words != expected_words {
+        if written.is_some() != (expected.refusal == 0) || plain_words != expected_words {
             panic!(
                 "Truth in plain Rust gives other words: book {}, hidden {hidden:#x}, sheet {}",
                 hex(book),
                 hex(sheet)
             );
+        }
+        if let Some(order) = written {
+            self.orders[order as usize] += 1;
         }
         if expected.refusal == 0 {
             let every = u64::MAX >> (64 - book[5]) & !hidden;
@@ -234,6 +240,14 @@ impl Tally {
             println!("too few questions tell cells apart");
             std::process::exit(1);
         }
+        println!(
+            "  links in groups, or not for few steps, few links or one label: {:?}",
+            self.orders
+        );
+        assert!(
+            self.orders.iter().all(|&times| times >= 100),
+            "links are kept too seldom in one of these ways"
+        );
         let claim = self.claim.report(
             &["yes", "no"],
             &[

@@ -18,8 +18,8 @@ use Rattle.fields.specs.Fields.{field}
 use Rattle.fields.specs.Label.{labelWidth}
 use Rattle.outcome.specs.Outcome.{accepted, refused, code, ofLeftBook, ofCall}
 use Rattle.theory.specs.TestLaws.{test-eq}
-use Rattle.theory.specs.Graph.{Comparison, same, differ, compared, link}
-use Rattle.book.specs.BookGraph.{dataValue, heard, passes, hides, hidesBeyond, seenRecording}
+use Rattle.theory.specs.Graph.{same, compared, link}
+use Rattle.book.specs.BookGraph.{heard, passes, hides, hidesBeyond, seenRecording}
 use Rattle.outcome.specs.Refusals.{firstOf}
 use Rattle.outcome.specs.RefusalLaws.{first-none, first-some}
 use Rattle.book.specs.Book.{lengthOf, versionOf, mostVersion, cellsOf, linksOf, recordingPlace, recordingAt, linkWidth, linkStart, linkPlace, linkIn, linkAt, countsRefusal, headRefusal, below, precedes, rises, linkRefusal, linksRefusal, bookRefusal, bookAnswer, bookOutcome, asLink}
@@ -393,24 +393,10 @@ module _ (a b : ℕ) where
   heard-both r f d = rw (ne-eqb a 0 f) d
 
   module _ (h : Bool) (d : h ≡ (heard a && heard b)) where
-    silent : (t : Comparison) → not h ≡ true → false ≡ passes t a b
-    unfolding passes
-    silent t e = rw (← d, not-true h e)
-
-    heard-by : (t : Comparison) → not h ≡ false → (r : Bool) → r ≡ compared dataValue t a b → r ≡ passes t a b
-    unfolding passes
-    heard-by t e r k = rw (← d, not-false h e) k
-
     pub silent-same : not h ≡ true → false ≡ passes same a b
-    silent-same = silent same
-
-    pub silent-differ : not h ≡ true → false ≡ passes differ a b
-    silent-differ = silent differ
+    unfolding passes
+    silent-same e = rw (← d, not-true h e)
 
     pub heard-same : not h ≡ false → (r : Bool) → r ≡ eqb a b → r ≡ passes same a b
-    unfolding compared
-    heard-same e r k = heard-by same e r k
-
-    pub heard-differ : not h ≡ false → (r : Bool) → r ≡ not (eqb a b) → r ≡ passes differ a b
-    unfolding compared
-    heard-differ e r k = heard-by differ e r k
+    unfolding passes compared
+    heard-same e r k = rw (← d, not-false h e) k

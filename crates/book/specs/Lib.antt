@@ -12,3 +12,4 @@ pub mod WidenedLaws
 pub mod Examples
 pub mod OutcomeLaws
 pub mod HeardLaws
+pub mod PassesLaws

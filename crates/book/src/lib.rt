@@ -4,7 +4,7 @@ ghost use mathlib.Core.Path.{_≡_};
 ghost use Prim.Native.Nat.{_+_, _-_, _*_, _≤_, _<_};
 ghost use lib.Dec.{ltb};
 ghost use lib.ListN.{length};
-ghost use Rattle.theory.specs.Graph.{same, differ};
+ghost use Rattle.theory.specs.Graph.{same};
 ghost use Rattle.outcome.specs.Outcome.{code};
 ghost use Rattle.book.specs.Book.{versionOf, cellsOf, linksOf, recordingPlace, recordingAt, linkWidth, linkStart, linkPlace, linkAt, countsRefusal, headRefusal, precedes, linkRefusal, linksRefusal, bookRefusal, bookAnswer, bookOutcome, asLink};
 ghost use Rattle.book.specs.BookGraph.{heard, passes, hidesBeyond, seenRecording};
@@ -16,7 +16,7 @@ pub struct LeftCell(pub u8);
 // A cell of the right book.
 pub struct RightCell(pub u8);
 
-// A recording's number. Recordings are compared by `same` and `differ` only, which a silent one never passes.
+// A recording's number. Recordings are compared by `same` only, which a silent one never passes; to differ is to be the same as oneself and not as the other.
 pub struct Recording(pub u32);
 
 // A link: from a cell, by a label, to a cell.
@@ -320,16 +320,6 @@ pub fn same(a: Recording, b: Recording) -> bool
         return false;
     }
     a.0 == b.0
-}
-
-// Whether two recordings are heard and differ.
-pub fn differ(x: Recording, y: Recording) -> bool
-    ensures { λ r. ⌜ r ≡ passes differ (x .0) (y .0) ⌝ }
-{
-    if !both_heard(x, y) {
-        return false;
-    }
-    x.0 != y.0
 }
 
 // Link k.

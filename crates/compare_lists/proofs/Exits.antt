@@ -12,13 +12,12 @@ use lib.ListN.{length, getD, replicate}
 use lib.Seq.{length-sets}
 use Rattle.theory.specs.Search.{list}
 use Rattle.theory.specs.Bisimulation.{sidesOf}
-use Rattle.theory.specs.Graph.{same, differ}
 use Rattle.theory.specs.TestLaws.{never}
 use Rattle.book.specs.declared.Hidden.{Hidden}
 use Rattle.book.specs.Book.{versionOf, cellsOf, bookRefusal}
 use Rattle.book.specs.BookGraph.{showing}
 use Rattle.book.specs.AcceptedLaws.{book-sizes}
-use Rattle.edges.specs.BookEdges.{Loaded, passing}
+use Rattle.edges.specs.BookEdges.{Loaded, BothRows}
 use Rattle.search_links.specs.Hops.{Starts}
 use Rattle.search_links.specs.Sets.{Paired}
 use Rattle.sheet.specs.Entry.{truth}
@@ -39,9 +38,9 @@ use Rattle.compare_lists.specs.Comparing.{IsRead, Lent, Started, Fills}
 -- ---- a book, read
 
 pub read-whole : (h : ℕ) (s fs ls ts starts ends alike unlike : List ℕ) (count : ℕ) → bookRefusal s ≡ 0 → Loaded h s count fs ls ts
-    → Starts count fs starts → alike ≡ passing h s same → unlike ≡ passing h s differ → Paired alike unlike ends → IsRead h s ls ts starts ends
-read-whole h s fs ls ts starts ends alike unlike count r d t a u p =
-    record { count = count; from = fs; read = record { accepted = r; loaded = d; table = t; rows = rw (a, u) at p } }
+    → Starts count fs starts → BothRows h s alike unlike → Paired alike unlike ends → IsRead h s ls ts starts ends
+read-whole h s fs ls ts starts ends alike unlike count r d t b p =
+    record { count = count; from = fs; read = record { accepted = r; loaded = d; table = t; rows = rw (b .first, b .second) at p } }
 
 pub read-few : (h : ℕ) (s fs ls ts : List ℕ) (count : ℕ) → Loaded h s count fs ls ts → count ≤ 512
 read-few h s fs ls ts count d = d .held .few

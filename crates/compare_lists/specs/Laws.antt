@@ -14,9 +14,9 @@ use Rattle.book.specs.declared.Hidden.{Hidden}
 use Rattle.book.specs.Book.{versionOf, bookRefusal}
 use Rattle.book.specs.BookGraph.{seenOf}
 use Rattle.book.specs.AcceptedLaws.{book-sizes}
+use Rattle.book.specs.PassesLaws.{passes-symmetric}
 use Rattle.book.specs.SeenLaws.{seen-graph, seen-label}
 use Rattle.sheet.specs.Sheet.{mostVersion, mostBound}
-use Rattle.search.specs.BookReasonLaws.{passes-symmetric}
 use Rattle.compare_laws.specs.Entries.{Narrow}
 use Rattle.compare_laws.specs.Refining.{Comparable}
 use Rattle.compare_lists.specs.BookSetting.{sheetVersion, settingOf}

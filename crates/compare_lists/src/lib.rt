@@ -26,8 +26,9 @@ fn read(
     let mut from = [0u8; 512];
     let count = edges::load(book, hidden, &mut from, labels, to);
     *starts = search_links::starts(count, &from);
-    let same = edges::passing(book, hidden, edges::Comparison::Same);
-    let differ = edges::passing(book, hidden, edges::Comparison::Differ);
+    let mut same = [0u64; 64];
+    let mut differ = [0u64; 64];
+    edges::passing(book, hidden, &mut same, &mut differ);
     *ends = search_links::paired(&same, &differ);
 }
 

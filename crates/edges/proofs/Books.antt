@@ -5,24 +5,26 @@ use mathlib.Core.List.{List, [], _∷_, _++_, append-nil}
 use Prim.Native.Nat.{ℕ, zero, suc, _+_, _^_, _≤_, _<_}
 use native.Mathlib.Nat.{le-of-suc-le-suc}
 use native.Mathlib.Omega.{arith}
+use borrow.Author.Tests.{eq-eqb, ne-eqb}
 use lib.Bits.{bitOr}
+use lib.Dec.{eqb}
 use lib.ListN.{length, getD, set, length-set}
 use lib.Seq.{getD-set-same, getD-set-other}
 use Rattle.theory.specs.Search.{list}
 use Rattle.theory.specs.TestLaws.{list-ext}
-use Rattle.theory.specs.Graph.{Comparison, same, differ, Link, Inside}
-use Rattle.words.specs.Words.{wordOf}
-use Rattle.words.specs.Laws.{word-in, word-out, wordOf-ext}
+use Rattle.theory.specs.Graph.{same, Link, Inside}
+use Rattle.words.specs.Words.{wordOf, IsMinus}
+use Rattle.words.specs.Laws.{word-in, word-out, wordOf-ext, wordOf-is}
 use Rattle.book.specs.Book.{cellsOf, linksOf, linkAt, bookRefusal, asLink}
 use Rattle.book.specs.BookGraph.{passes, hides, clear, kept, seenLinks, seenRecording, seenOf}
 use Rattle.book.specs.AcceptedLaws.{book-sizes, book-link}
 use Rattle.book.specs.SeenLaws.{seen-ends, seen-graph}
 use Rattle.book.specs.declared.BookLink.{BookLink}
 use Rattle.edges.specs.Edges.{edgeAt, edges, emptyRows}
-use Rattle.edges.specs.BookEdges.{Loaded, comparisonOf, recordingsTo, recordings, passingIn, passingTo, passingRows, passing}
+use Rattle.edges.specs.BookEdges.{Loaded, recordingsTo, recordings, sameIn, passingTo, passingRows, passing, BothRows}
+use Rattle.edges.specs.Differing.{filled, differRow, differingTo, differing}
 use Rattle.edges.specs.Laws.{rows-at, rows-none, rows-more}
-use Rattle.edges.specs.declared.Comparison.{Comparison as Asked}
-use Rattle.edges.specs.declared.Comparison.the-variants.{Same, Differ}
+use Rattle.edges.specs.BookLaws.{passing-differing}
 
 -- ---- what an accepted book has room for
 module _ (s : List ℕ) (r : bookRefusal s ≡ 0) where
@@ -136,6 +138,9 @@ module _ (h : ℕ) (s fs ls ts : List ℕ) (count k : ℕ) (i : Filled h s fs ls
 
   pub filled-all : bookRefusal s ≡ 0 → (e : ℕ) → e ≡ linksOf s → e ≤ k → k ≤ e → Loaded h s count fs ls ts
   filled-all r e d m n = record {
+    from-long = i .from-long;
+    label-long = i .label-long;
+    to-long = i .to-long;
     held = record {
       few = omega (arith, book-sizes s r .most);
       from-low = λ j l. omega (arith, inside j l .0, book-sizes s r .few);
@@ -149,14 +154,6 @@ module _ (h : ℕ) (s fs ls ts : List ℕ) (count k : ℕ) (i : Filled h s fs ls
 
       inside : (j : ℕ) → j < count → (getD fs j 0 < cellsOf s) × (getD ts j 0 < cellsOf s)
       inside = inside-at (cellsOf s) count (edgeAt fs ls ts) (rw is (seen-graph h s r .inside))
-
--- ---- a comparison of two recordings
-module _ (asked : Asked) (a b : ℕ) (r : Bool) where
-  pub passes-same : asked ≡ Same → r ≡ passes same a b → r ≡ passes (comparisonOf asked) a b
-  passes-same e d = rw e d
-
-  pub passes-differ : asked ≡ Differ → r ≡ passes differ a b → r ≡ passes (comparisonOf asked) a b
-  passes-differ e d = rw e d
 
 -- ---- the recordings, one turn at a time
 module _ (h : ℕ) (s : List ℕ) where
@@ -172,43 +169,88 @@ module _ (h : ℕ) (s : List ℕ) where
     pub list-all : (n : ℕ) → n ≡ cellsOf s → n ≤ x → x ≤ n → list ≡ recordings h s
     list-all n d m l = let e : x ≡ cellsOf s = omega arith in rw e at i
 
--- ---- the cells that pass with a cell, one turn at a time
-module _ (rs : List ℕ) (t : Comparison) (x : ℕ) where
-  pub word-none : 0 ≡ passingIn rs t x 0
-  unfolding passingIn wordOf
+-- ---- the cells that are the same as a cell, one turn at a time
+module _ (rs : List ℕ) (x : ℕ) where
+  pub word-none : 0 ≡ sameIn rs x 0
+  unfolding sameIn wordOf
   word-none = refl
 
-  module _ (y : ℕ) (r : Bool) (d : r ≡ passes t (getD rs x 0) (getD rs y 0)) (out next : ℕ) (i : out ≡ passingIn rs t x y) where
-    pub word-more : So r → (joined : ℕ) → joined ≡ bitOr out (2 ^ y) → next ≡ joined → next ≡ passingIn rs t x (y + 1)
-    unfolding passingIn
-    word-more e = word-in (λ y. passes t (getD rs x 0) (getD rs y 0)) y out next i (sym d ∙ e)
+  module _ (y : ℕ) (r : Bool) (d : r ≡ passes same (getD rs x 0) (getD rs y 0)) (out next : ℕ) (i : out ≡ sameIn rs x y) where
+    pub word-more : So r → (joined : ℕ) → joined ≡ bitOr out (2 ^ y) → next ≡ joined → next ≡ sameIn rs x (y + 1)
+    unfolding sameIn
+    word-more e = word-in (λ y. passes same (getD rs x 0) (getD rs y 0)) y out next i (sym d ∙ e)
 
-    pub word-skip : r ≡ false → next ≡ out → next ≡ passingIn rs t x (y + 1)
-    unfolding passingIn
-    word-skip e = word-out (λ y. passes t (getD rs x 0) (getD rs y 0)) y out next i (sym d ∙ e)
+    pub word-skip : r ≡ false → next ≡ out → next ≡ sameIn rs x (y + 1)
+    unfolding sameIn
+    word-skip e = word-out (λ y. passes same (getD rs x 0) (getD rs y 0)) y out next i (sym d ∙ e)
 
-  pub word-all : (y n out : ℕ) → n ≤ y → y ≤ n → out ≡ passingIn rs t x y → out ≡ passingIn rs t x n
+  pub word-all : (y n out : ℕ) → n ≤ y → y ≤ n → out ≡ sameIn rs x y → out ≡ sameIn rs x n
   word-all y n out m l i = let e : y ≡ n = omega arith in rw e at i
 
 -- ---- their rows
-module _ (h : ℕ) (s : List ℕ) (t : Comparison) where
-  pub rows-start : emptyRows 64 ≡ passingRows h s t 0
+module _ (h : ℕ) (s : List ℕ) where
+  pub rows-start : (rows : List ℕ) → rows ≡ emptyRows 64 → rows ≡ passingRows h s same 0
   unfolding passingRows
-  rows-start = rows-none 64 _
+  rows-start rows e = e ∙ rows-none 64 _
 
-  module _ (rows : List ℕ) (x n : ℕ) (i : rows ≡ passingRows h s t x) (d : n ≡ cellsOf s) where
-    -- with the recordings of the list they pass as they do in the book
-    pub rows-next : (list : List ℕ) → list ≡ recordings h s → x < n → n ≤ 64 → (v : ℕ) → v ≡ passingIn list t x n → set rows x v ≡ passingRows h s t (x + 1)
-    unfolding passingRows passingTo passingIn recordingsTo
-    rows-next list e l few v f = rw (i, f ∙ same) (rows-more 64 x _)
+  module _ (rows : List ℕ) (x n : ℕ) (i : rows ≡ passingRows h s same x) (d : n ≡ cellsOf s) where
+    -- with the recordings of the list they are the same as they are in the book
+    pub rows-next : (list : List ℕ) → list ≡ recordings h s → x < n → n ≤ 64 → (v : ℕ) → v ≡ sameIn list x n → set rows x v ≡ passingRows h s same (x + 1)
+    unfolding passingRows passingTo sameIn recordingsTo
+    rows-next list e l few v f = rw (i, f ∙ alike) (rows-more 64 x _)
       where
         at : (y : ℕ) → y < n → getD list y 0 ≡ seenRecording h s y
         at y m = rw e (rows-at 64 (cellsOf s) (seenRecording h s) y (omega arith) (omega arith))
 
-        same : wordOf n (λ y. passes t (getD list x 0) (getD list y 0)) ≡ wordOf (cellsOf s) (seenOf h s .ends t x)
-        same =
-            wordOf-ext n _ _ (λ y m. rw (at x l, at y m) (sym (seen-ends h s t x y (omega arith) (omega arith))))
-            ∙ ap (λ k. wordOf k (seenOf h s .ends t x)) d
+        alike : wordOf n (λ y. passes same (getD list x 0) (getD list y 0)) ≡ wordOf (cellsOf s) (seenOf h s .ends same x)
+        alike =
+            wordOf-ext n _ _ (λ y m. rw (at x l, at y m) (sym (seen-ends h s same x y (omega arith) (omega arith))))
+            ∙ ap (λ k. wordOf k (seenOf h s .ends same x)) d
 
-    pub rows-all : n ≤ x → x ≤ n → rows ≡ passing h s t
+    pub rows-all : n ≤ x → x ≤ n → rows ≡ passing h s same
     rows-all m l = let e : x ≡ cellsOf s = omega arith in rw e at i
+
+-- ---- the rows that are not empty, one turn at a time
+module _ (rows : List ℕ) where
+  pub row-none : 0 ≡ filled rows 0
+  unfolding filled wordOf
+  row-none = refl
+
+  module _ (x out next : ℕ) (i : out ≡ filled rows x) where
+    pub row-in : (getD rows x 0 ≡ 0 → ⊥) → (joined : ℕ) → joined ≡ bitOr out (2 ^ x) → next ≡ joined → next ≡ filled rows (x + 1)
+    unfolding filled
+    row-in f = word-in (λ x. not (eqb (getD rows x 0) 0)) x out next i (rw (ne-eqb (getD rows x 0) 0 f))
+
+    pub row-out : getD rows x 0 ≡ 0 → next ≡ out → next ≡ filled rows (x + 1)
+    unfolding filled
+    row-out z = word-out (λ x. not (eqb (getD rows x 0) 0)) x out next i (rw (eq-eqb (getD rows x 0) 0 z))
+
+  pub row-all : (x n out : ℕ) → n ≤ x → x ≤ n → out ≡ filled rows x → out ≡ filled rows n
+  row-all x n out m l i = let e : x ≡ n = omega arith in rw e at i
+
+-- ---- the rows of what differs
+module _ (heard row : ℕ) where
+  pub differ-none : row ≡ 0 → 0 ≡ differRow heard row
+  unfolding differRow
+  differ-none z = rw (eq-eqb row 0 z)
+
+  pub differ-some : heard < 2 ^ 64 → (row ≡ 0 → ⊥) → (r : ℕ) → IsMinus heard row r → r ≡ differRow heard row
+  unfolding differRow
+  differ-some h f r d = rw (ne-eqb row 0 f) (wordOf-is 64 r _ (omega (arith, d .most)) (λ i _. d .bits i))
+
+module _ (sames : List ℕ) (n : ℕ) where
+  pub differ-start : (rows : List ℕ) → rows ≡ emptyRows 64 → rows ≡ differingTo sames n 0
+  unfolding differingTo
+  differ-start rows e = e ∙ rows-none 64 _
+
+  module _ (rows : List ℕ) (x : ℕ) (i : rows ≡ differingTo sames n x) where
+    pub differ-next : (heard v : ℕ) → heard ≡ filled sames n → v ≡ differRow heard (getD sames x 0) → set rows x v ≡ differingTo sames n (x + 1)
+    unfolding differingTo
+    differ-next heard v d e = rw (i, e, d) (rows-more 64 x _)
+
+    pub differ-all : n ≤ x → x ≤ n → rows ≡ differing sames n
+    differ-all m l = let e : x ≡ n = omega arith in rw e at i
+
+pub both-rows : (h : ℕ) (s : List ℕ) → bookRefusal s ≡ 0 → (n : ℕ) → n ≡ cellsOf s → (sames differs : List ℕ) → sames ≡ passing h s same
+    → differs ≡ differing sames n → BothRows h s sames differs
+both-rows h s r n d sames differs e f = record { first = e; second = f ∙ rw (e, d) (passing-differing h s r) }

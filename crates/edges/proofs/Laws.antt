@@ -1,15 +1,15 @@
 -- What each turn and each way out of the functions shows of the definitions of `specs/`. The numbers that the code computed are variables
 -- here, with what is known of them, so that `search` finds them in a need's record.
-use mathlib.Core.Bool.{Bool, true, false, So, cond, _&&_, _||_}
+use mathlib.Core.Bool.{Bool, true, false, So, cond, not, _&&_, _||_}
 use mathlib.Core.Path.{_≡_, refl, sym, ap, ap₂, _∙_}
 use mathlib.Core.List.{List, [], _∷_}
 use Prim.Native.Nat.{ℕ, zero, suc, _+_, _-_, _*_, _/_, _%_, _^_, _≤_, _<_}
 use native.Mathlib.Nat.{add-zero, mod-lt, mod-eq-of-lt, one-mul, zero-mul}
 use native.Mathlib.Omega.{arith}
-use borrow.Author.Tests.{eq-eqb, ne-eqb}
-use lib.Bits.{bitAnd, bitOr, bitXor, and-mask, or-zero-r}
+use borrow.Author.Tests.{eq-eqb, ne-eqb, eqb-true, not-false}
+use lib.Bits.{bitAnd, bitOr, bitXor, and-mask, or-zero-r, or-add-and, and-le-l, and-le-r}
 use lib.Dec.{eqb, lit<}
-use lib.ListN.{getD, set}
+use lib.ListN.{length, getD, set, length-set, length-replicate}
 use lib.Pow.{pow-lt}
 use mir.Syntax.{w64}
 use mir.Val.{Fits}
@@ -17,10 +17,10 @@ use Rattle.theory.specs.Search.{list}
 use Rattle.theory.specs.TestLaws.{list-ext}
 use Rattle.theory.specs.Graph.{Link}
 use Rattle.words.specs.Words.{bit}
-use Rattle.edges.specs.Edges.{edgeAt, edges, Held, image, gather, meets, anyPasses}
-use Rattle.edges.specs.Groups.{groupOf, total, Grouped, GroupWith}
+use Rattle.edges.specs.Edges.{edgeAt, edges, Held, image, gather, Gathered, emptyRows, meets, anyPasses}
+use Rattle.edges.specs.Groups.{groupOf, total, startFor, untilFor, Grouped, GroupWith}
 use Rattle.edges.specs.declared.Group.{Group}
-use Rattle.edges.specs.Laws.{meets-zero, passes-more, passes-none}
+use Rattle.edges.specs.Laws.{empty-at, row-set, meets-zero, passes-more, passes-none}
 
 -- ---- one bit moved
 pub moved-is : (w i j : ℕ) → j < 64 → bitAnd (w / 2 ^ i) 1 * 2 ^ j % 2 ^ 64 ≡ cond (bit w i) (2 ^ j) 0
@@ -125,18 +125,57 @@ module _ (count : ℕ) (fs ls ts : List ℕ) where
                   → gather (rest count fs ls ts (k + 1)) a w later next ≡ gather (edges count fs ls ts) a w later rows₀
               gather-outside v u = rw u (gather-turn false (rw (eq-eqb (getD ls k 0) a e, ← d) v))
 
--- ---- the links of a label's group, of all links
-pub group-found : (starts : List ℕ) (a g : ℕ) (r : Group) → g ≡ groupOf a → r .start ≡ getD starts g 0 → r .until ≡ getD starts (g + 1) 0 → GroupWith starts a r
-group-found starts a g r d e f = record { start = rw (← d) e; until = rw (← d) f }
+-- ---- rows and the union of all that was put into them
+pub record Within (all : ℕ) (rows : List ℕ) : Type 0 where
+  pub long : length rows ≡ 64
+  pub none : all ≡ 0 → (x : ℕ) → getD rows x 0 ≡ 0
+
+pub within-start : Within 0 (emptyRows 64)
+unfolding emptyRows
+within-start = record { long = length-replicate {A = ℕ} 64 0; none = λ _. empty-at 64 }
+
+module _ (all : ℕ) (rows : List ℕ) (d : Within all rows) (sum : ℕ) (next : List ℕ) where
+  put : (i v : ℕ) → i < 64 → sum ≡ bitOr all v → Within sum (set rows i (bitOr (getD rows i 0) v))
+  put i v l e = record { long = length-set rows i _ ∙ d .long; none = none }
+    where
+      either : (b : Bool) (n : ℕ) → cond b n n ≡ n
+      either true n = refl
+      either false n = refl
+
+      none : sum ≡ 0 → (x : ℕ) → getD (set rows i (bitOr (getD rows i 0) v)) x 0 ≡ 0
+      none z x =
+          let o = sym e ∙ z in
+          let both = or-add-and all v in
+          let n : all ≡ 0 = omega (arith, and-le-l all v, and-le-r all v) in
+          let m : v ≡ 0 = omega (arith, and-le-l all v, and-le-r all v) in
+          row-set rows i _ x (omega (arith, d .long)) ∙ rw (m, d .none n i, d .none n x, or-zero-r 0) (either (eqb i x) 0)
+
+  -- by a link more
+  pub within-more : (count : ℕ) (fs ts : List ℕ) → Held count fs ts → (k until : ℕ) → k < until → until ≤ count → (v : ℕ) → sum ≡ bitOr all v
+      → next ≡ set rows (getD fs k 0) (bitOr (getD rows (getD fs k 0) 0) v) → Within sum next
+  within-more count fs ts o k until h m v e f = rw f (put (getD fs k 0) v (from-below count fs ts o k until h m) e)
+
+  pub within-same : sum ≡ all → next ≡ rows → Within sum next
+  within-same e f = rw (e, f) d
+
+-- ---- the links among which those of a label are, of all links
+module _ (starts : List ℕ) (a : ℕ) (r : Group) where
+  pub all-found : getD starts 65 0 ≡ 0 → r .start ≡ 0 → r .until ≡ getD starts 64 0 → GroupWith starts a r
+  unfolding startFor untilFor
+  all-found z e f = let t = eq-eqb (getD starts 65 0) 0 z in record { start = rw t e; until = rw t f }
+
+  pub group-found : (getD starts 65 0 ≡ 0 → ⊥) → (g : ℕ) → g ≡ groupOf a → r .start ≡ getD starts g 0 → r .until ≡ getD starts (g + 1) 0 → GroupWith starts a r
+  unfolding startFor untilFor
+  group-found z g d e f = let t = ne-eqb (getD starts 65 0) 0 z in record { start = rw (t, ← d) e; until = rw (t, ← d) f }
 
 module _ (starts fs ls ts : List ℕ) (d : Grouped starts ls) (a : ℕ) (group : Group) (e : GroupWith starts a group) where
   -- the group starts among the links
   pub start-within : group .start ≤ total starts
-  start-within = omega (arith, e .start, d .within (groupOf a) (omega arith))
+  start-within = omega (arith, e .start, d .start-within a)
 
   -- and ends among them
   pub until-within : group .until ≤ total starts
-  until-within = omega (arith, e .until, d .within (groupOf a + 1) (omega arith))
+  until-within = omega (arith, e .until, d .until-within a)
 
   module _ {A : Type 0} (f : List Link → A) (over : (k : Link) (ks : List Link) → (k .label ≡ a → ⊥) → f (k ∷ ks) ≡ f ks) where
     -- no link with the label a is before its group
@@ -175,11 +214,14 @@ module _ (starts fs ls ts : List ℕ) (d : Grouped starts ls) (a : ℕ) (group :
       pub gather-start : (rows : List ℕ) → gather (rest (total starts) fs ls ts (group .start)) a w later rows ≡ gather (edges (total starts) fs ls ts) a w later rows
       gather-start rows = none-before (λ ks. gather ks a w later rows) (gather-over rows)
 
-      pub gather-end : (rows₀ rows : List ℕ) (k : ℕ) → group .until ≤ k → k ≤ total starts
-          → gather (rest (total starts) fs ls ts k) a w later rows ≡ gather (edges (total starts) fs ls ts) a w later rows₀
-          → rows ≡ gather (edges (total starts) fs ls ts) a w later rows₀
+      pub gather-end : (rows : List ℕ) (k : ℕ) → group .until ≤ k → k ≤ total starts
+          → gather (rest (total starts) fs ls ts k) a w later rows ≡ gather (edges (total starts) fs ls ts) a w later (emptyRows 64)
+          → (all : ℕ) → Within all rows → (r : Bool) → r ≡ not (eqb all 0) → Gathered (edges (total starts) fs ls ts) a w later r rows
       unfolding gather
-      gather-end rows₀ rows k h m inv = sym (none-behind (λ ks. gather ks a w later rows) (gather-over rows) k h m) ∙ inv
+      gather-end rows k h m inv all d r e = record {
+        is = sym (none-behind (λ ks. gather ks a w later rows) (gather-over rows) k h m) ∙ inv;
+        none = λ f. d .none (eqb-true all 0 (not-false (eqb all 0) (sym e ∙ f)));
+      }
 
 -- ---- two sets and rows
 module _ (first second : ℕ) (rows : List ℕ) (left : ℕ) (inv : anyPasses left second rows ≡ anyPasses first second rows) where

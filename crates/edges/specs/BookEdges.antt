@@ -2,24 +2,20 @@
 use mathlib.Core.Path.{_≡_}
 use mathlib.Core.List.{List}
 use Prim.Native.Nat.{ℕ}
-use lib.ListN.{getD}
+use lib.ListN.{length, getD}
 use Rattle.theory.specs.Graph.{Comparison, same, differ}
 use Rattle.words.specs.Words.{wordOf}
 use Rattle.book.specs.Book.{cellsOf}
 use Rattle.book.specs.BookGraph.{passes, seenLinks, seenRecording, seenOf}
 use Rattle.edges.specs.Edges.{edges, Held, rowsTo}
-use Rattle.edges.specs.declared.Comparison.{Comparison as Asked}
-use Rattle.edges.specs.declared.Comparison.the-variants.{Same, Differ}
 
--- The lists hold the links that are seen of the book, `count` of them.
+-- The lists, of 512, hold the links that are seen of the book, `count` of them.
 pub record Loaded (h : ℕ) (s : List ℕ) (count : ℕ) (fs ls ts : List ℕ) : Type 0 where
+  pub from-long : length fs ≡ 512
+  pub label-long : length ls ≡ 512
+  pub to-long : length ts ≡ 512
   pub held : Held count fs ts
   pub is : edges count fs ls ts ≡ seenLinks h s
-
--- The theory's name of a comparison.
-abbrev pub comparisonOf : Asked → Comparison
-comparisonOf Same = same
-comparisonOf Differ = differ
 
 -- The recordings of the first m cells as they are seen, in a list of 64; the others are silent.
 unfoldable pub recordingsTo : ℕ → List ℕ → ℕ → List ℕ
@@ -29,9 +25,9 @@ recordingsTo h s m = rowsTo 64 m (seenRecording h s)
 abbrev pub recordings : ℕ → List ℕ → List ℕ
 recordings h s = recordingsTo h s (cellsOf s)
 
--- Of the first m cells with these recordings, those that pass the comparison with cell x.
-unfoldable pub passingIn : List ℕ → Comparison → ℕ → ℕ → ℕ
-passingIn rs t x m = wordOf m (λ y. passes t (getD rs x 0) (getD rs y 0))
+-- Of the first m cells with these recordings, those whose recording is the same as that of cell x.
+unfoldable pub sameIn : List ℕ → ℕ → ℕ → ℕ
+sameIn rs x m = wordOf m (λ y. passes same (getD rs x 0) (getD rs y 0))
 
 -- Of the first m cells of the book, those that pass the comparison with cell x.
 unfoldable pub passingTo : ℕ → List ℕ → Comparison → ℕ → ℕ → ℕ
@@ -44,3 +40,8 @@ passingRows h s t m = rowsTo 64 m (λ x. passingTo h s t x (cellsOf s))
 -- The rows of all cells.
 abbrev pub passing : ℕ → List ℕ → Comparison → List ℕ
 passing h s t = passingRows h s t (cellsOf s)
+
+-- The rows of both comparisons.
+pub record BothRows (h : ℕ) (s sames differs : List ℕ) : Type 0 where
+  pub first : sames ≡ passing h s same
+  pub second : differs ≡ passing h s differ

@@ -1,6 +1,6 @@
 -- The links of a graph held as three lists of numbers, and what sets of nodes become along them.
 -- A set of nodes is a word, whose bits are its nodes (01: "Truth sets of up to 64 cells are u64 words").
-use mathlib.Core.Bool.{Bool, cond, _&&_}
+use mathlib.Core.Bool.{Bool, false, cond, _&&_}
 use mathlib.Core.Path.{_≡_}
 use mathlib.Core.List.{List, [], _∷_}
 use Prim.Native.Nat.{ℕ, _^_, _≤_, _<_}
@@ -54,6 +54,11 @@ emptyRows size = replicate size 0
 -- As many rows, of which the first m are f's and the others empty.
 unfoldable pub rowsTo : ℕ → ℕ → (ℕ → ℕ) → List ℕ
 rowsTo size m f = list size (λ x. cond (ltb x m) (f x) 0)
+
+-- The rows are those that are gathered from rows `later`; where the answer is no they are all empty.
+pub record Gathered (ks : List Link) (a w : ℕ) (later : List ℕ) (r : Bool) (rows : List ℕ) : Type 0 where
+  pub is : rows ≡ gather ks a w later (emptyRows 64)
+  pub none : r ≡ false → (x : ℕ) → getD rows x 0 ≡ 0
 
 -- Two words have a common node.
 unfoldable pub meets : ℕ → ℕ → Bool

@@ -6,7 +6,7 @@ use mathlib.Core.Logic.{_↔_, ⊎-elim, inl, inr}
 use Prim.Native.Nat.{ℕ, zero, suc, _+_, _^_, _≤_, _<_, suc-le-suc}
 use native.Mathlib.Omega.{arith}
 use borrow.Author.Tests.{eqb-true, eqb-false, ltb-true, lt-ltb}
-use lib.Bits.{bitAnd, bitOr, bitXor, or-lt}
+use lib.Bits.{bitAnd, bitOr, bitXor, or-lt, or-zero-r}
 use lib.Dec.{eqb, ltb, leb·suc-zero}
 use lib.ListN.{length, getD, set, length-set, getD-replicate, length-replicate}
 use lib.Pow.{pow-pos, pow-lt}
@@ -125,7 +125,7 @@ image-word n ks i a p =
     ∙ rw bit-zero (any-ext n _ _ (λ x l. ap (λ (b : Bool). has ks x a y && b) (bit-wordOf-lt n p x l))))
 
 -- ---- rows of sets
-row-set : (rows : List ℕ) (i v x : ℕ) → i < length rows → getD (set rows i v) x 0 ≡ cond (eqb i x) v (getD rows x 0)
+pub row-set : (rows : List ℕ) (i v x : ℕ) → i < length rows → getD (set rows i v) x 0 ≡ cond (eqb i x) v (getD rows x 0)
 row-set rows i v x h = go (eqb i x) refl
   where
     go : (b : Bool) → eqb i x ≡ b → getD (set rows i v) x 0 ≡ cond b v (getD rows x 0)
@@ -205,6 +205,33 @@ gather-word n ks i a p q later d size h = record { row = each }
         ap₂ (λ (b c : Bool). has ks x a y && (b && c)) (bit-wordOf-lt n p y m)
         (ap (λ (w : ℕ). bit w z) (d .row y m) ∙ bit-wordOf-lt n (q y) z o))))
 
+-- ---- rows that are empty
+pub empty-at : (n x : ℕ) → getD (emptyRows n) x 0 ≡ 0
+unfolding emptyRows
+empty-at zero x = refl
+empty-at (suc n) zero = refl
+empty-at (suc n) (suc x) = empty-at n x
+
+-- stay so with an empty row more,
+empty-set : (rows : List ℕ) (i x : ℕ) → ((y : ℕ) → getD rows y 0 ≡ 0) → getD (set rows i 0) x 0 ≡ 0
+empty-set [] i x f = refl
+empty-set (r ∷ rows) zero zero f = refl
+empty-set (r ∷ rows) zero (suc x) f = f (suc x)
+empty-set (r ∷ rows) (suc i) zero f = f 0
+empty-set (r ∷ rows) (suc i) (suc x) f = empty-set rows i x (λ y. f (suc y))
+
+-- and give no others
+pub gather-empty : (ks : List Link) (a w : ℕ) (later rows : List ℕ) → ((y : ℕ) → getD later y 0 ≡ 0) → ((y : ℕ) → getD rows y 0 ≡ 0)
+    → (x : ℕ) → getD (gather ks a w later rows) x 0 ≡ 0
+unfolding gather
+gather-empty [] a w later rows f g x = g x
+gather-empty (k ∷ ks) a w later rows f g x =
+    gather-empty ks a w later _ f (next (eqb (k .label) a && bit w (k .to))) x
+  where
+    next : (b : Bool) (y : ℕ) → getD (cond b (set rows (k .from) (bitOr (getD rows (k .from) 0) (getD later (k .to) 0))) rows) y 0 ≡ 0
+    next true y = rw (f (k .to), g (k .from), or-zero-r 0) (empty-set rows (k .from) y g)
+    next false y = g y
+
 -- ---- rows made from the front
 pub rows-at : (size m : ℕ) (f : ℕ → ℕ) (x : ℕ) → x < size → x < m → getD (rowsTo size m f) x 0 ≡ f x
 unfolding rowsTo
@@ -248,6 +275,10 @@ meets-zero v w h =
 pub passes-none : (second : ℕ) (rows : List ℕ) → anyPasses 0 second rows ≡ false
 unfolding anyPasses
 passes-none second rows = simp bit-zero (any-none 64)
+
+pub passes-no-second : (first : ℕ) (rows : List ℕ) → anyPasses first 0 rows ≡ false
+unfolding anyPasses meets
+passes-no-second first rows = any-ext 64 _ _ (λ x _. ap (λ (b : Bool). bit first x && b) (simp bit-zero (any-none 64)) ∙ and-false (bit first x)) ∙ any-none 64
 
 -- a node of the first set passes, or another does
 pub passes-more : (first second : ℕ) (rows : List ℕ) (y : ℕ) → y < 64 → So (bit first y)

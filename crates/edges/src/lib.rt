@@ -4,20 +4,16 @@ ghost use mathlib.Core.Path.{_≡_};
 ghost use mathlib.Core.Bool.{cond};
 ghost use Prim.Native.Nat.{_^_, _≤_, _<_};
 ghost use lib.ListN.{length};
+ghost use Rattle.theory.specs.Graph.{same};
 ghost use Rattle.words.specs.Words.{bit};
 ghost use Rattle.book.specs.Book.{bookRefusal, asLink};
-ghost use Rattle.book.specs.BookGraph.{passes, clear};
-ghost use Rattle.edges.specs.Edges.{edges, Held, image, gather, emptyRows, anyPasses};
+ghost use Rattle.book.specs.BookGraph.{clear};
+ghost use Rattle.edges.specs.Edges.{edges, Held, image, Gathered, emptyRows, anyPasses};
 ghost use Rattle.edges.specs.Groups.{groupOf, total, Grouped, GroupWith};
-ghost use Rattle.edges.specs.BookEdges.{Loaded, comparisonOf, recordings, passingIn, passing};
+ghost use Rattle.edges.specs.BookEdges.{Loaded, recordings, sameIn, passing, BothRows};
+ghost use Rattle.edges.specs.Differing.{filled, differRow, differing};
 use book::BookLink;
 use book::Recording;
-
-// What is asked of the recordings of two cells (01: same, differ).
-pub enum Comparison {
-    Same,
-    Differ,
-}
 
 // Whether a link between cells that a word has room for touches no hidden cell.
 fn clear(hidden: u64, link: BookLink) -> bool
@@ -80,16 +76,22 @@ fn wide(x: u16) -> usize
     x as usize
 }
 
-// The links of one group: from link `start` up to link `until`.
+// Some of the links: from link `start` up to link `until`.
 struct Group {
     start: usize,
     until: usize,
 }
 
-// The links of the label's group.
-fn group_with(starts: &[u16; 65], label: u16) -> Group
+// The links of the label's group, where the table groups them, and else all.
+fn group_with(starts: &[u16; 66], label: u16) -> Group
     ensures { λ r. ⌜ GroupWith (now (starts .entry)) label r ⌝ }
 {
+    if starts[65] == 0 {
+        return Group {
+            start: 0,
+            until: wide(starts[64]),
+        };
+    }
     let group = group_of(label);
     Group {
         start: wide(starts[group]),
@@ -97,10 +99,10 @@ fn group_with(starts: &[u16; 65], label: u16) -> Group
     }
 }
 
-// The nodes that a link with the label leads to from a node of w, of links in groups that start so. With the lists of from and to nodes
+// The nodes that a link with the label leads to from a node of w, of links that the table groups or counts. With the lists of from and to nodes
 // exchanged, the nodes that such a link leads from into w. No branch depends on w.
 pub fn image(
-    starts: &[u16; 65],
+    starts: &[u16; 66],
     from: &[u8; 512],
     labels: &[u16; 512],
     to: &[u8; 512],
@@ -124,35 +126,38 @@ pub fn image(
     out
 }
 
-// Rows of sets, one a node: the row of a node is the union of the rows, in `later`, of the nodes of w that a link with the label
-// leads to from it, of links in groups that start so.
+// Rows of sets, one a node, a step further back: the row of a node becomes the union of the rows of the nodes of w that a link with the label
+// leads to from it. The answer is false only if no row has a node then.
 pub fn gather(
-    starts: &[u16; 65],
+    starts: &[u16; 66],
     from: &[u8; 512],
     labels: &[u16; 512],
     to: &[u8; 512],
     label: u16,
     w: u64,
-    later: &[u64; 64],
-) -> [u64; 64]
+    rows: &mut [u64; 64],
+) -> bool
     requires { ⌜ Held (total (now starts)) (now from) (now to) × Grouped (now starts) (now labels) ⌝ }
-    ensures { λ r. ⌜ r ≡ gather (edges (total (now (starts .entry))) (now (from .entry)) (now (labels .entry)) (now (to .entry))) label w (now (later .entry)) (emptyRows 64) ⌝ }
+    ensures { λ r. ⌜ Gathered (edges (total (now (starts .entry))) (now (from .entry)) (now (labels .entry)) (now (to .entry))) label w (now (rows .entry)) r (now (rows .exit)) ⌝ }
 {
+    let later = *rows;
+    *rows = [0u64; 64];
     let group = group_with(starts, label);
     let until = group.until;
     let mut k = group.start;
-    let mut rows = [0u64; 64];
+    let mut all: u64 = 0;
     while k < until {
         if labels[k] == label {
             if words::has(w, to[k]) {
                 let i = from[k] as usize;
                 let j = to[k] as usize;
                 rows[i] = rows[i] | later[j];
+                all = all | later[j];
             }
         }
         k += 1;
     }
-    rows
+    all != 0
 }
 
 // Whether some node y of `first` and some node z of `second` have bit z set in row y.
@@ -168,16 +173,6 @@ pub fn any_passes(first: u64, second: u64, rows: &[u64; 64]) -> bool
         left = words::without(left, y);
     }
     false
-}
-
-// Whether two recordings pass the comparison.
-fn passes(comparison: Comparison, a: Recording, b: Recording) -> bool
-    ensures { λ r. ⌜ r ≡ passes (comparisonOf comparison) (a .0) (b .0) ⌝ }
-{
-    match comparison {
-        Comparison::Same => book::same(a, b),
-        Comparison::Differ => book::differ(a, b),
-    }
 }
 
 // The recordings of the cells of an accepted book as they are seen, one a cell; those from the number of cells on are silent.
@@ -196,17 +191,17 @@ fn recordings(book: &[u8], hidden: u64) -> [u32; 64]
     list
 }
 
-// Of n cells with these recordings, those that pass the comparison with cell x.
-fn passing_with(list: &[u32; 64], n: usize, comparison: Comparison, x: usize) -> u64
+// Of n cells with these recordings, those whose recording is the same as that of cell x.
+fn same_with(list: &[u32; 64], n: usize, x: usize) -> u64
     requires { ⌜ (n ≤ 64) × (x < n) ⌝ }
-    ensures { λ r. ⌜ r ≡ passingIn (now (list .entry)) (comparisonOf comparison) x n ⌝ }
+    ensures { λ r. ⌜ r ≡ sameIn (now (list .entry)) x n ⌝ }
 {
     let here = Recording(list[x]);
     let mut out: u64 = 0;
     let mut y = 0;
     while y < n {
         let there = Recording(list[y]);
-        if passes(comparison, here, there) {
+        if book::same(here, there) {
             out = words::with(out, y as u8);
         }
         y += 1;
@@ -214,19 +209,66 @@ fn passing_with(list: &[u32; 64], n: usize, comparison: Comparison, x: usize) ->
     out
 }
 
-// Rows of sets, one a cell of an accepted book: row x is the set of the cells that pass the comparison with cell x. The rows of hidden
-// cells, and those from the number of cells on, are empty.
-pub fn passing(book: &[u8], hidden: u64, comparison: Comparison) -> [u64; 64]
-    requires { ⌜ bookRefusal (now book) ≡ 0 ⌝ }
-    ensures { λ r. ⌜ r ≡ passing hidden (now (book .entry)) (comparisonOf comparison) ⌝ }
+// Writes into empty rows which cells have the same recordings.
+fn same_rows(book: &[u8], hidden: u64, rows: &mut [u64; 64])
+    requires { ⌜ (bookRefusal (now book) ≡ 0) × (now rows ≡ emptyRows 64) ⌝ }
+    ensures { λ _. ⌜ now (rows .exit) ≡ passing hidden (now (book .entry)) same ⌝ }
 {
     let n = book::cells_of(book);
     let list = recordings(book, hidden);
-    let mut rows = [0u64; 64];
     let mut x = 0;
     while x < n {
-        rows[x] = passing_with(&list, n, comparison, x);
+        rows[x] = same_with(&list, n, x);
         x += 1;
     }
-    rows
+}
+
+// Of n rows, those that are not empty.
+fn filled(n: usize, rows: &[u64; 64]) -> u64
+    requires { ⌜ n ≤ 64 ⌝ }
+    ensures { λ r. ⌜ r ≡ filled (now (rows .entry)) n ⌝ }
+{
+    let mut out: u64 = 0;
+    let mut x = 0;
+    while x < n {
+        if rows[x] != 0 {
+            out = words::with(out, x as u8);
+        }
+        x += 1;
+    }
+    out
+}
+
+// The cells that differ from one whose row of the same is given, beside the cells that are heard.
+fn differ_with(heard: u64, row: u64) -> u64
+    ensures { λ r. ⌜ r ≡ differRow heard row ⌝ }
+{
+    if row == 0 {
+        return 0;
+    }
+    words::minus(heard, row)
+}
+
+// Writes into empty rows which cells differ, from n rows of which are the same.
+fn differ_rows(n: usize, sames: &[u64; 64], rows: &mut [u64; 64])
+    requires { ⌜ (n ≤ 64) × (now rows ≡ emptyRows 64) ⌝ }
+    ensures { λ _. ⌜ now (rows .exit) ≡ differing (now (sames .entry)) n ⌝ }
+{
+    let heard = filled(n, sames);
+    let mut x = 0;
+    while x < n {
+        rows[x] = differ_with(heard, sames[x]);
+        x += 1;
+    }
+}
+
+// Writes into empty rows, one a cell of an accepted book, which cells pass the comparisons: row x of the first is the set of the cells whose recording is
+// the same as that of cell x, and row x of the second of those that differ from it. The rows of hidden and of silent cells, and those from the number of
+// cells on, stay empty.
+pub fn passing(book: &[u8], hidden: u64, sames: &mut [u64; 64], differs: &mut [u64; 64])
+    requires { ⌜ (bookRefusal (now book) ≡ 0) × (now sames ≡ emptyRows 64) × (now differs ≡ emptyRows 64) ⌝ }
+    ensures { λ _. ⌜ BothRows hidden (now (book .entry)) (now (sames .exit)) (now (differs .exit)) ⌝ }
+{
+    same_rows(book, hidden, sames);
+    differ_rows(book::cells_of(book), sames, differs);
 }

@@ -1,26 +1,28 @@
 -- What each function of the evaluation returns, and what its loops keep: a law for each exit and each turn.
-use mathlib.Core.Bool.{Bool, true, false, cond, not, _&&_}
+use mathlib.Core.Bool.{Bool, true, false, cond, not, _&&_, _||_, and-false, or-false, false≢true}
 use mathlib.Core.Path.{_≡_, refl, sym, ap, _∙_}
-use mathlib.Core.List.{List, append-nil}
-use Prim.Native.Nat.{ℕ, suc, _+_, _-_, _^_, _≤_, _<_}
+use mathlib.Core.List.{List, [], _∷_, append-nil}
+use Prim.Native.Nat.{ℕ, zero, suc, _+_, _-_, _^_, _≤_, _<_}
 use native.Mathlib.Nat.{sub-zero}
 use native.Mathlib.Omega.{arith}
-use borrow.Author.Tests.{lt-ltb, le-ltb, ne-eqb, not-false, not-true}
-use lib.Bits.{bitAnd, bitOr, bitXor}
+use borrow.Author.Tests.{lt-ltb, le-ltb, eqb-true, ne-eqb, not-false, not-true}
+use lib.Bits.{bitAnd, bitOr, bitXor, or-lt}
 use lib.Dec.{eqb, ltb}
-use lib.ListN.{getD, set, drop, length-replicate}
+use lib.ListN.{length, getD, set, drop, length-set, drop-of-length-le}
+use lib.Pow.{pow-pos, pow-lt}
 use Rattle.theory.specs.Search.{list}
 use Rattle.theory.specs.Graph.{same, differ, Link}
-use Rattle.words.specs.Words.{bit, wordOf}
-use Rattle.words.specs.Laws.{word-in, word-out}
+use Rattle.words.specs.Words.{bit, IsLowest, IsWithout}
+use Rattle.words.specs.Laws.{bit-zero, bit-with, bit-without, wordOf-is}
 use Rattle.sheet.specs.Entry.{Step, Entry, truth, negation, conjunction, disjunction, way, comparison, kindOf, firstWay, secondWay, stepIn, numbers}
 use Rattle.sheet.specs.Sheet.{entryAt, entryStart, nextAt}
 use Rattle.sheet.specs.AcceptedLaws.{entryStart-zero}
 use Rattle.sheet.specs.Reading.{Reads, stepsOf}
 use Rattle.sheet.specs.KnownLaws.{none-left, all-left, next-step}
 use Rattle.sheet.specs.declared.Steps.{Steps}
-use Rattle.edges.specs.Edges.{edges, image, gather, emptyRows, anyPasses}
-use Rattle.evaluate.specs.Evaluation.{Tables, tables, forward, backward, plainWord, wayWord, endRows, comparisonTo, comparisonWord, pairWord, entryWord, evaluatedFrom, evaluated}
+use Rattle.edges.specs.Edges.{edges, image, Gathered, anyPasses}
+use Rattle.edges.specs.Laws.{empty-at, gather-empty, passes-none, passes-no-second}
+use Rattle.evaluate.specs.Evaluation.{Tables, tables, forward, backward, plainWord, wayWord, endRows, Ended, comparisonWord, pairWord, entryWord, evaluatedFrom, evaluated}
 use Rattle.evaluate.specs.WritingLaws.{over, over-next}
 
 -- ---- the words that numbers and tests name
@@ -70,6 +72,13 @@ module _ (every : ℕ) (ws s : List ℕ) (at kind : ℕ) (l : kindOf (entryAt s 
       plain-or f g h z = z ∙ rw (x, y) (sym (plain kind refl ∙ rw (ne-eqb kind 0 f, ne-eqb kind 1 g, ne-eqb kind 2 h)))
 
 -- ---- ways, from the last step to the first
+-- where the later steps end nowhere, so do all
+nowhere : (ks : List Link) (ws : List ℕ) (k : ℕ) (ss : List Step) → ((x : ℕ) → getD (endRows ks ws (drop k ss)) x 0 ≡ 0) → (x : ℕ) → getD (endRows ks ws ss) x 0 ≡ 0
+unfolding endRows
+nowhere ks ws zero ss f = f
+nowhere ks ws (suc k) [] f = f
+nowhere ks ws (suc k) (t ∷ ss) f = gather-empty ks (t .label) (getD ws (t .test) 0) _ _ (nowhere ks ws k ss f) (empty-at 64)
+
 module _ (s : List ℕ) (w : Steps) (left : ℕ) (p : 0 < left) (h : left ≤ w .count) where
   module _ (ks : List Link) (ws : List ℕ) (a v : ℕ) (d : a ≡ stepIn (stepsOf s w) (left - 1) .label) (e : v ≡ getD ws (stepIn (stepsOf s w) (left - 1) .test) 0) where
     pub way-next : (every out m r : ℕ) → out ≡ wayWord every ks ws (drop left (stepsOf s w)) → m ≡ bitAnd v out → r ≡ image ks a m 0
@@ -77,10 +86,17 @@ module _ (s : List ℕ) (w : Steps) (left : ℕ) (p : 0 < left) (h : left ≤ w 
     unfolding wayWord
     way-next every out m r i f g = g ∙ rw (f, d, e, i, next-step s w left p h)
 
-    pub rows-next : (rows rows′ : List ℕ) → rows ≡ endRows ks ws (drop left (stepsOf s w)) → rows′ ≡ gather ks a v rows (emptyRows 64)
-        → rows′ ≡ endRows ks ws (drop (left - 1) (stepsOf s w))
-    unfolding endRows
-    rows-next rows rows′ i g = g ∙ rw (d, e, i, next-step s w left p h)
+    module _ (rows : List ℕ) (i : rows ≡ endRows ks ws (drop left (stepsOf s w))) (b : Bool) (rows′ : List ℕ) (g : Gathered ks a v rows b rows′) where
+      pub rows-next : rows′ ≡ endRows ks ws (drop (left - 1) (stepsOf s w))
+      unfolding endRows
+      rows-next = g .is ∙ rw (d, e, i, next-step s w left p h)
+
+      -- no way has an end
+      pub rows-none : not b ≡ true → Ended ks ws (stepsOf s w) false rows′
+      rows-none t = record {
+        is = λ f. absurd (false≢true f);
+        none = λ _. nowhere ks ws (left - 1) (stepsOf s w) (λ x. rw (← rows-next) (g .none (not-true b t) x));
+      }
 
 module _ (s : List ℕ) (w : Steps) (ks : List Link) (ws : List ℕ) where
   pub way-start : (every : ℕ) → every ≡ wayWord every ks ws (drop (w .count) (stepsOf s w))
@@ -94,63 +110,103 @@ module _ (s : List ℕ) (w : Steps) (ks : List Link) (ws : List ℕ) where
   unfolding endRows
   rows-start rows d = d ∙ rw (none-left s w)
 
-  pub rows-end : (rows : List ℕ) (left : ℕ) → left ≤ 0 → rows ≡ endRows ks ws (drop left (stepsOf s w)) → rows ≡ endRows ks ws (stepsOf s w)
-  rows-end rows left h i = i ∙ rw (all-left (stepsOf s w) left h)
+  pub rows-end : (rows : List ℕ) (left : ℕ) → left ≤ 0 → rows ≡ endRows ks ws (drop left (stepsOf s w)) → Ended ks ws (stepsOf s w) true rows
+  rows-end rows left h i = record { is = λ _. i ∙ rw (all-left (stepsOf s w) left h); none = λ e. absurd (false≢true (sym e)) }
 
 -- ---- for each node the set of that node
 abbrev pub single : ℕ → ℕ
 single x = 2 ^ x
 
 -- the rows with the first x written
-abbrev pub singlesTo : ℕ → List ℕ
-singlesTo x = over x single (emptyRows 64)
+abbrev pub singlesTo : ℕ → List ℕ → List ℕ
+singlesTo x rows₀ = over x single rows₀
 
-pub singles-start : (rows : List ℕ) → rows ≡ emptyRows 64 → rows ≡ singlesTo 0
-unfolding list
-singles-start rows d = d
+module _ (rows₀ : List ℕ) (long : length rows₀ ≡ 64) where
+  pub singles-start : (rows : List ℕ) → rows ≡ rows₀ → rows ≡ singlesTo 0 rows₀
+  unfolding list
+  singles-start rows d = d
 
-pub singles-next : (x v : ℕ) (rows : List ℕ) → x < 64 → rows ≡ singlesTo x → v ≡ 2 ^ x → set rows x v ≡ singlesTo (x + 1)
-unfolding emptyRows
-singles-next x v rows h d e = rw (d, e) (over-next x single (emptyRows 64) (rw length-replicate h))
+  pub singles-next : (x v : ℕ) (rows : List ℕ) → x < 64 → rows ≡ singlesTo x rows₀ → v ≡ 2 ^ x → set rows x v ≡ singlesTo (x + 1) rows₀
+  singles-next x v rows h d e = rw (d, e) (over-next x single rows₀ (omega arith))
 
-pub singles-end : (x : ℕ) (rows : List ℕ) → 64 ≤ x → x ≤ 64 → rows ≡ singlesTo x → rows ≡ list 64 (λ x. 2 ^ x)
-unfolding emptyRows
-singles-end x rows h l d = d ∙ rw (let e : x ≡ 64 = omega arith in e) (append-nil (list 64 single))
+  pub singles-end : (x : ℕ) (rows : List ℕ) → 64 ≤ x → x ≤ 64 → rows ≡ singlesTo x rows₀ → rows ≡ list 64 (λ x. 2 ^ x)
+  singles-end x rows h l d =
+      d ∙ rw (let e : x ≡ 64 = omega arith in e, drop-of-length-le rows₀ {i = 64} (omega arith)) (append-nil (list 64 single))
 
 -- ---- two rows a node
-module _ (every x first second : ℕ) (rows : List ℕ) (a : Bool) (d : a ≡ bit every x) where
-  pub passes-no-node : not a ≡ true → false ≡ (bit every x && anyPasses first second rows)
-  passes-no-node e = rw (← d, not-true a e)
+-- whether an end in a node's first row and an end in its second pass
+abbrev passed : List ℕ → List ℕ → List ℕ → ℕ → Bool
+passed rows firsts seconds y = anyPasses (getD firsts y 0) (getD seconds y 0) rows
 
-  pub passes-node : not a ≡ false → (r : Bool) → r ≡ anyPasses first second rows → r ≡ (bit every x && anyPasses first second rows)
-  passes-node e r f = rw (← d, not-false a e) f
+-- the nodes found, and those that pass of the nodes that are left, are all that pass
+pub record Found (every : ℕ) (rows firsts seconds : List ℕ) (out left : ℕ) : Type 0 where
+  pub small : out < 2 ^ 64
+  pub each : (y : ℕ) → y < 64 → (bit out y || (bit left y && passed rows firsts seconds y)) ≡ (bit every y && passed rows firsts seconds y)
 
-module _ (every x out : ℕ) (rows firsts seconds : List ℕ) (b : Bool) (d : b ≡ (bit every x && anyPasses (getD firsts x 0) (getD seconds x 0) rows))
-    (i : out ≡ comparisonTo x every rows firsts seconds) where
-  abbrev passed : ℕ → Bool
-  passed y = bit every y && anyPasses (getD firsts y 0) (getD seconds y 0) rows
+pub found-start : (every : ℕ) (rows firsts seconds : List ℕ) → Found every rows firsts seconds 0 every
+found-start every rows firsts seconds = record { small = pow-pos 64; each = λ y _. rw bit-zero }
 
-  pub comparison-set : (v r : ℕ) → b ≡ true → v ≡ bitOr out (2 ^ x) → r ≡ v → r ≡ comparisonTo (x + 1) every rows firsts seconds
-  unfolding comparisonTo
-  comparison-set v r t = word-in passed x out r i (sym d ∙ t) v
+module _ (every : ℕ) (rows firsts seconds : List ℕ) (out left : ℕ) (d : Found every rows firsts seconds out left) where
+  module _ (x : ℕ) (l : IsLowest left x) (b : Bool) (e : b ≡ passed rows firsts seconds x) (rest : ℕ) (w : IsWithout left x rest) where
+    -- one more, and the same of it both times
+    more : (found : Bool) (next : ℕ) → next < 2 ^ 64 → ((y : ℕ) → bit next y ≡ (bit out y || (found && eqb x y))) → b ≡ found
+        → Found every rows firsts seconds next rest
+    more found next small bits f = record { small = small; each = λ y m. rw (w .is) (step y ∙ d .each y m) }
+      where
+        by : (y : ℕ) (q : Bool) → eqb x y ≡ q
+            → ((bit out y || (found && q)) || ((bit left y && not q) && passed rows firsts seconds y)) ≡ (bit out y || (bit left y && passed rows firsts seconds y))
+        by y true q = rw (← eqb-true x y q, l .there, ← e, f) (with-it (bit out x) found)
+          where
+            with-it : (o p : Bool) → ((o || (p && true)) || ((true && false) && p)) ≡ (o || (true && p))
+            with-it true p = refl
+            with-it false true = refl
+            with-it false false = refl
+        by y false q = without-it (bit out y) found (bit left y) (passed rows firsts seconds y)
+          where
+            without-it : (o p l r : Bool) → ((o || (p && false)) || ((l && true) && r)) ≡ (o || (l && r))
+            without-it true p l r = refl
+            without-it false true true r = refl
+            without-it false true false r = refl
+            without-it false false true r = refl
+            without-it false false false r = refl
 
-  pub comparison-clear : (r : ℕ) → b ≡ false → r ≡ out → r ≡ comparisonTo (x + 1) every rows firsts seconds
-  unfolding comparisonTo
-  comparison-clear r t = word-out passed x out r i (sym d ∙ t)
+        step : (y : ℕ) → (bit next y || (bit (bitXor left (2 ^ x)) y && passed rows firsts seconds y)) ≡ (bit out y || (bit left y && passed rows firsts seconds y))
+        step y = rw (bits y, bit-without left x y (l .there)) (by y (eqb x y) refl)
 
-pub comparison-start : (every : ℕ) (rows firsts seconds : List ℕ) → 0 ≡ comparisonTo 0 every rows firsts seconds
-unfolding comparisonTo wordOf
-comparison-start every rows firsts seconds = refl
+    pub found-in : b ≡ true → (joined next : ℕ) → joined ≡ bitOr out (2 ^ x) → next ≡ joined → Found every rows firsts seconds next rest
+    found-in t joined next u v =
+        more true next (rw (v, u) (or-lt 64 out (2 ^ x) (d .small) (pow-lt (l .small)))) (λ y. rw (v, u) (bit-with out x y)) t
 
-pub comparison-end : (every x out : ℕ) (rows firsts seconds : List ℕ) → 64 ≤ x → x ≤ 64 → out ≡ comparisonTo x every rows firsts seconds
-    → out ≡ comparisonWord every rows firsts seconds
-comparison-end every x out rows firsts seconds h l i = i ∙ ap (λ k. comparisonTo k every rows firsts seconds) (omega arith)
+    pub found-out : b ≡ false → (next : ℕ) → next ≡ out → Found every rows firsts seconds next rest
+    found-out t next v = more false next (rw v (d .small)) (λ y. rw v (sym (or-false (bit out y)))) t
+
+  pub found-all : left ≡ 0 → out ≡ comparisonWord every rows firsts seconds
+  unfolding comparisonWord
+  found-all z = wordOf-is 64 out _ (d .small) (λ y m. sym (or-false (bit out y)) ∙ rw (z, bit-zero) at (d .each y m))
+
+-- ---- rows without ends
+module _ (every : ℕ) (rows : List ℕ) where
+  none-pass : (firsts seconds : List ℕ) → ((x : ℕ) → passed rows firsts seconds x ≡ false) → 0 ≡ comparisonWord every rows firsts seconds
+  unfolding comparisonWord
+  none-pass firsts seconds f = wordOf-is 64 0 _ (pow-pos 64) (λ y _. bit-zero y ∙ sym (rw (f y) (and-false (bit every y))))
+
+  module _ (ks : List Link) (ws : List ℕ) (s : List ℕ) (at : ℕ) where
+    pub no-first : (p w : Steps) → Reads s p (firstWay (entryAt s at)) w → (b : Bool) (firsts : List ℕ) → Ended ks ws (stepsOf s w) b firsts → not b ≡ true
+        → 0 ≡ pairWord every rows ks ws (entryAt s at)
+    no-first p w a b firsts d t =
+        none-pass _ _ (λ x. rw (← a .steps, d .none (not-true b t) x) (passes-none _ rows))
+
+    pub no-second : (p w : Steps) → Reads s p (secondWay (entryAt s at)) w → (b : Bool) (seconds : List ℕ) → Ended ks ws (stepsOf s w) b seconds → not b ≡ true
+        → 0 ≡ pairWord every rows ks ws (entryAt s at)
+    no-second p w a b seconds d t =
+        none-pass _ _ (λ x. rw (← a .steps, d .none (not-true b t) x) (passes-no-second _ rows))
 
 -- ---- the ways of an entry
-pub pair-returned : (every r : ℕ) (rows : List ℕ) (ks : List Link) (ws s : List ℕ) (p p′ w w′ : Steps) (ss ss′ : List Step) (firsts seconds : List ℕ)
-    → Reads s p ss w → Reads s p′ ss′ w′ → firsts ≡ endRows ks ws (stepsOf s w) → seconds ≡ endRows ks ws (stepsOf s w′)
+pub pair-returned : (every r : ℕ) (rows : List ℕ) (ks : List Link) (ws s : List ℕ) (p p′ w w′ : Steps) (ss ss′ : List Step) (x y : Bool) (firsts seconds : List ℕ)
+    → Reads s p ss w → Reads s p′ ss′ w′ → Ended ks ws (stepsOf s w) x firsts → not x ≡ false → Ended ks ws (stepsOf s w′) y seconds → not y ≡ false
     → r ≡ comparisonWord every rows firsts seconds → r ≡ comparisonWord every rows (endRows ks ws ss) (endRows ks ws ss′)
-pair-returned every r rows ks ws s p p′ w w′ ss ss′ firsts seconds a b d e f = f ∙ rw (d, e, a .steps, b .steps)
+pair-returned every r rows ks ws s p p′ w w′ ss ss′ x y firsts seconds a b d t e u f =
+    f ∙ rw (d .is (not-false x t), e .is (not-false y u), a .steps, b .steps)
 
 -- ---- the word of an entry, by its kind
 waysBy : ℕ → Tables → List ℕ → List Step → List Step → ℕ
@@ -179,10 +235,6 @@ module _ (every count : ℕ) (fs ls ts sames differs ws s : List ℕ) (at kind r
   unfolding t
   by-kind k e = rw (← e, d) (entry-by (tables every count fs ls ts sames differs) ws (entryAt s at))
 
-  pub entry-plain : kind < 4 → r ≡ plainWord every ws (entryAt s at) → r ≡ entryWord (tables every count fs ls ts sames differs) ws (entryAt s at)
-  unfolding t
-  entry-plain h e = e ∙ sym (by-kind kind refl ∙ rw (lt-ltb kind 4 h))
-
   pub entry-way : (p w : Steps) → kind ≡ 4 → Reads s p (firstWay (entryAt s at)) w → r ≡ wayWord every (edges count ts ls fs) ws (stepsOf s w)
       → r ≡ entryWord (tables every count fs ls ts sames differs) ws (entryAt s at)
   unfolding t waysBy
@@ -192,10 +244,10 @@ module _ (every count : ℕ) (fs ls ts sames differs ws s : List ℕ) (at kind r
   unfolding t waysBy
   entry-same k e = e ∙ sym (by-kind 5 k)
 
-  pub entry-differ : 4 ≤ kind → (kind ≡ 4 → ⊥) → (kind ≡ 5 → ⊥) → r ≡ pairWord every differs (edges count fs ls ts) ws (entryAt s at)
+  pub entry-differ : 4 ≤ kindOf (entryAt s at) → (kind ≡ 4 → ⊥) → (kind ≡ 5 → ⊥) → r ≡ pairWord every differs (edges count fs ls ts) ws (entryAt s at)
       → r ≡ entryWord (tables every count fs ls ts sames differs) ws (entryAt s at)
   unfolding t waysBy
-  entry-differ h g k e = e ∙ sym (by-kind kind refl ∙ rw (le-ltb kind 4 h, ne-eqb kind 4 g, ne-eqb kind 5 k))
+  entry-differ h g k e = e ∙ sym (by-kind kind refl ∙ rw (le-ltb kind 4 (omega arith), ne-eqb kind 4 g, ne-eqb kind 5 k))
 
 -- ---- entry by entry
 module _ (t : Tables) (s : List ℕ) (upto : ℕ) where
@@ -203,11 +255,19 @@ module _ (t : Tables) (s : List ℕ) (upto : ℕ) where
   evaluate-start at ws d = rw (d, entryStart-zero s, sub-zero upto)
 
   module _ (k at : ℕ) (ws end : List ℕ) (i : evaluatedFrom t s k at (upto - k) ws ≡ end) where
-    pub evaluate-next : (v next : ℕ) → k < upto → v ≡ entryWord t ws (entryAt s at) → next ≡ nextAt s at
-        → evaluatedFrom t s (k + 1) next (upto - (k + 1)) (set ws k v) ≡ end
-    unfolding evaluatedFrom
-    evaluate-next v next h d e =
-        rw (d, e) (rw (let q : upto - k ≡ suc (upto - (k + 1)) = omega arith in q) at i)
+    module _ (v next : ℕ) (ws′ : List ℕ) (h : k < upto) (w : ws′ ≡ set ws k v) (e : next ≡ nextAt s at) where
+      pub evaluate-next : v ≡ entryWord t ws (entryAt s at) → evaluatedFrom t s (k + 1) next (upto - (k + 1)) ws′ ≡ end
+      unfolding evaluatedFrom
+      evaluate-next d =
+          rw (w, d, e) (rw (let q : upto - k ≡ suc (upto - (k + 1)) = omega arith in q) at i)
+
+      pub evaluate-plain : (kind : ℕ) → kind ≡ kindOf (entryAt s at) → kind < 4 → v ≡ plainWord (t .every) ws (entryAt s at)
+          → evaluatedFrom t s (k + 1) next (upto - (k + 1)) ws′ ≡ end
+      evaluate-plain kind c l d = evaluate-next (d ∙ sym (entry-by t ws (entryAt s at) ∙ rw (← c, lt-ltb kind 4 l)))
+
+    -- the words are as many as they were
+    pub evaluate-long : (m : ℕ) → length ws ≡ m → (v : ℕ) (ws′ : List ℕ) → ws′ ≡ set ws k v → length ws′ ≡ m
+    evaluate-long m l v ws′ e = rw e (length-set ws k v ∙ l)
 
     pub evaluate-end : upto ≤ k → ws ≡ end
     unfolding evaluatedFrom

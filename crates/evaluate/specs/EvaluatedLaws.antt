@@ -1,21 +1,21 @@
 -- The word of an entry is that of its question.
-use mathlib.Core.Bool.{Bool, true, false, not, xor, _&&_, _||_, and-true}
+use mathlib.Core.Bool.{Bool, true, false, not, xor, _&&_, _||_, and-true, and-assoc}
 use mathlib.Core.Path.{_≡_, refl, sym, ap, ap₂, _∙_}
 use mathlib.Core.List.{List, [], _∷_}
 use Prim.Native.Nat.{ℕ, zero, suc, _+_, _^_, _≤_, _<_}
-use native.Mathlib.Nat.{add-zero, zero-add, lt-of-lt-of-le}
+use native.Mathlib.Nat.{add-zero, zero-add}
 use native.Mathlib.Omega.{arith}
 use lib.Bits.{bitAnd, bitOr, bitXor, xor-lt}
-use lib.Dec.{eqb, ltb}
+use lib.Dec.{eqb}
 use lib.ListN.{length, set}
-use lib.Pow.{pow-lt, pow-mono}
+use lib.Pow.{pow-lt}
 use Rattle.theory.specs.Search.{any, list}
 use Rattle.theory.specs.TestLaws.{any-iff, any-ext, and-iff, test-eq, list-at}
 use Rattle.theory.specs.Graph.{Comparison, Graph, linked, WellFormed}
 use Rattle.theory.specs.Expression.{NodeExpr, neg, conj, disj, exists, compare, always}
 use Rattle.theory.specs.Meaning.{reach, holds}
-use Rattle.words.specs.Words.{bit, wordOf}
-use Rattle.words.specs.Laws.{word-ext, wordOf-is, wordOf-ext, wordOf-lt, bit-wordOf, bit-wordOf-lt, bit-pow, bit-xor, and-wordOf, or-wordOf}
+use Rattle.words.specs.Words.{wordOf}
+use Rattle.words.specs.Laws.{wordOf-is, wordOf-ext, wordOf-lt, wordOf-among, bit-wordOf-lt, bit-pow, bit-xor, and-wordOf, or-wordOf}
 use Rattle.sheet.specs.Entry.{Step, Entry, truth, negation, conjunction, disjunction, way, comparison, firstWay, secondWay, named, spellWay, spell, expressions, tests, numbers, Below}
 use Rattle.sheet.specs.Sheet.{countOf, entriesOf, entryAt, entryStart, sheetRefusal}
 use Rattle.sheet.specs.AcceptedLaws.{well-formed-entry, entryStart-zero, entryStart-next, accepted-standing, accepted-question}
@@ -25,19 +25,9 @@ use Rattle.edges.specs.Laws.{preimage-is, gather-is, any-passes-is}
 use Rattle.evaluate.specs.WritingLaws.{over, over-at, over-next}
 use Rattle.evaluate.specs.WayLaws.{stays, reach-step, exists-step}
 use Rattle.evaluate.specs.QuestionWord.{truthWord, questionWord}
-use Rattle.evaluate.specs.Evaluation.{Tables, forward, backward, rowsFor, plainWord, wayWord, endRows, comparisonTo, comparisonWord, entryWord, evaluatedFrom, evaluated, TablesOf, Known}
+use Rattle.evaluate.specs.Evaluation.{Tables, forward, backward, rowsFor, plainWord, wayWord, endRows, comparisonWord, entryWord, evaluatedFrom, evaluated, TablesOf, Known}
 
 -- ---- words of nodes
-together : (a b c : Bool) → ((a && b) && c) ≡ (a && (b && c))
-together true b c = refl
-together false b c = refl
-
--- what is asked of some numbers below n, asked of those below m
-wide : (n m : ℕ) (p q : ℕ → Bool) → n ≤ m → wordOf m (λ x. bit (wordOf n p) x && q x) ≡ wordOf n (λ x. p x && q x)
-wide n m p q h =
-    word-ext m _ _ (wordOf-lt m _) (lt-of-lt-of-le (wordOf-lt n _) (pow-mono h))
-    (λ x l. bit-wordOf-lt m _ x l ∙ ap (λ (b : Bool). b && q x) (bit-wordOf n p x) ∙ together (ltb x n) (p x) (q x) ∙ sym (bit-wordOf n _ x))
-
 module _ {g : Graph} (formed : WellFormed g) (x a : ℕ) where
   -- a link leads to a node,
   to-node : (y : ℕ) (b : Bool) → (linked g x a y && (g .shown y && b)) ≡ (linked g x a y && b)
@@ -124,7 +114,7 @@ module _ {g : Graph} {t : Tables} (o : TablesOf g t) {qs : List NodeExpr} {m : �
       (record {
         row = λ x h. d .row x h
             ∙ wordOf-ext n _ _
-            (λ z l. any-ext n _ _ (λ y i. ap (λ (b : Bool). linked g x (s .label) y && b) (together (g .shown y) (q y) (r y z)) ∙ to-node (o .formed) x (s .label) y (q y && r y z))
+            (λ z l. any-ext n _ _ (λ y i. ap (λ (b : Bool). linked g x (s .label) y && b) (and-assoc (g .shown y) (q y) (r y z)) ∙ to-node (o .formed) x (s .label) y (q y && r y z))
             ∙ sym (reach-step g qs s ss x z));
       })
 
@@ -132,10 +122,10 @@ module _ {g : Graph} {t : Tables} (o : TablesOf g t) {qs : List NodeExpr} {m : �
   comparison-word : (c : Comparison) (ss ss′ : List Step) → Below m (tests ss) → Below m (tests ss′)
       → comparisonWord (t .every) (rowsFor t c) (endRows (forward t) ws ss) (endRows (forward t) ws ss′)
       ≡ truthWord g (compare c (spellWay qs ss) (spellWay qs ss′))
-  unfolding comparisonTo holds
+  unfolding comparisonWord holds
   comparison-word c ss ss′ b b′ =
       ap (λ (w : ℕ). comparisonWord w (rowsFor t c) (endRows (forward t) ws ss) (endRows (forward t) ws ss′)) (o .every)
-      ∙ wide (g .size) 64 (g .shown) _ (o .few)
+      ∙ wordOf-among (g .size) 64 (g .shown) _ (o .few)
       ∙ wordOf-ext (g .size) _ _
       (λ x h. ap (λ (b : Bool). g .shown x && b) (rw (way-rows ss b .row x h, way-rows ss′ b′ .row x h)
       (any-passes-is (g .size) (reach g (spellWay qs ss) x) (reach g (spellWay qs ss′) x) (g .ends c) (rowsFor t c) (o .few) (o .rows c))))

@@ -1,6 +1,6 @@
 -- How the words of a sheet's questions in a graph (`QuestionWord`) are computed: entry by entry, from the words of the entries before.
 -- `EvaluatedLaws` says that what is computed is the word of the entry's question.
-use mathlib.Core.Bool.{_&&_}
+use mathlib.Core.Bool.{Bool, true, false, _&&_}
 use mathlib.Core.List.{List, [], _∷_}
 use mathlib.Core.Path.{_≡_}
 use Prim.Native.Nat.{ℕ, zero, suc, _+_, _^_, _≤_, _<_}
@@ -67,13 +67,9 @@ unfoldable pub endRows : List Link → List ℕ → List Step → List ℕ
 endRows ks ws [] = list 64 (λ x. 2 ^ x)
 endRows ks ws (s ∷ ss) = gather ks (s .label) (getD ws (s .test) 0) (endRows ks ws ss) (emptyRows 64)
 
--- Of the first m numbers, the nodes with an end in their first row and an end in their second that pass.
-unfoldable pub comparisonTo : ℕ → ℕ → List ℕ → List ℕ → List ℕ → ℕ
-comparisonTo m every rows firsts seconds = wordOf m (λ x. bit every x && anyPasses (getD firsts x 0) (getD seconds x 0) rows)
-
--- All such nodes.
-abbrev pub comparisonWord : ℕ → List ℕ → List ℕ → List ℕ → ℕ
-comparisonWord every rows firsts seconds = comparisonTo 64 every rows firsts seconds
+-- The nodes with an end in their first row and an end in their second that pass.
+unfoldable pub comparisonWord : ℕ → List ℕ → List ℕ → List ℕ → ℕ
+comparisonWord every rows firsts seconds = wordOf 64 (λ x. bit every x && anyPasses (getD firsts x 0) (getD seconds x 0) rows)
 
 -- The word of a comparison whose rows are given, from the two ways of its entry.
 abbrev pub pairWord : ℕ → List ℕ → List Link → List ℕ → Entry → ℕ
@@ -107,6 +103,11 @@ pub record TablesOf (g : Graph) (t : Tables) : Type 0 where
   pub inside : Inside (g .size) (forward t)
   pub links : (x a y : ℕ) → has (forward t) x a y ≡ linked g x a y
   pub rows : (c : Comparison) → Rows (g .size) (g .ends c) (rowsFor t c)
+
+-- The rows are those of the ends of the ways; where the answer is no, no way has an end.
+pub record Ended (ks : List Link) (ws : List ℕ) (ss : List Step) (r : Bool) (rows : List ℕ) : Type 0 where
+  pub is : r ≡ true → rows ≡ endRows ks ws ss
+  pub none : r ≡ false → (x : ℕ) → getD (endRows ks ws ss) x 0 ≡ 0
 
 -- The first m words are those of the expressions.
 pub record Known (g : Graph) (qs : List NodeExpr) (m : ℕ) (ws : List ℕ) : Type 0 where

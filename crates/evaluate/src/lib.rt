@@ -1,6 +1,5 @@
 // The words of a sheet's entries, one after another, over the tables of a graph: sets of nodes as words.
 ghost use mathlib.Core.Path.{_≡_};
-ghost use mathlib.Core.Bool.{_&&_};
 ghost use Prim.Native.Nat.{_^_, _≤_, _<_};
 ghost use lib.ListN.{length, getD};
 ghost use Rattle.theory.specs.Search.{list};
@@ -8,10 +7,9 @@ ghost use Rattle.sheet.specs.Entry.{kindOf, stepIn, numbers};
 ghost use Rattle.sheet.specs.Sheet.{entryAt};
 ghost use Rattle.sheet.specs.Reading.{stepsOf, HasNumber};
 ghost use Rattle.sheet.specs.Known.{WayKnown, EntryKnown, EntriesFit};
-ghost use Rattle.edges.specs.Edges.{edges, Held, anyPasses};
+ghost use Rattle.edges.specs.Edges.{edges, Held};
 ghost use Rattle.edges.specs.Groups.{total, Grouped};
-ghost use Rattle.words.specs.Words.{bit};
-ghost use Rattle.evaluate.specs.Evaluation.{tables, plainWord, wayWord, endRows, comparisonWord, pairWord, entryWord, evaluated};
+ghost use Rattle.evaluate.specs.Evaluation.{tables, plainWord, wayWord, Ended, comparisonWord, pairWord, entryWord, evaluated};
 use sheet::Question;
 
 // The word of the entry that number i of the not, and or or at `at` names.
@@ -55,7 +53,7 @@ fn plain_word(every: u64, sheet: &[u8], at: usize, known: &[u64]) -> u64
 // The nodes with a way of the steps, from the last step to the first over one word.
 fn way_word(
     every: u64,
-    starts: &[u16; 65],
+    starts: &[u16; 66],
     from: &[u8; 512],
     labels: &[u16; 512],
     to: &[u8; 512],
@@ -77,52 +75,44 @@ fn way_word(
     out
 }
 
-// For each node the set of that node.
-fn singles() -> [u64; 64]
-    ensures { λ r. ⌜ r ≡ list 64 (λ x. 2 ^ x) ⌝ }
+// Writes for each node the set of that node.
+fn singles(rows: &mut [u64; 64])
+    requires { ⌜ length (now rows) ≡ 64 ⌝ }
+    ensures { λ _. ⌜ now (rows .exit) ≡ list 64 (λ x. 2 ^ x) ⌝ }
 {
-    let mut rows = [0u64; 64];
     let mut x: u8 = 0;
     while x < 64 {
         rows[x as usize] = words::only(x);
         x += 1;
     }
-    rows
 }
 
-// For each node the ends of the ways of the steps from it, from the last step to the first for all nodes together.
+// Writes for each node the ends of the ways of the steps from it, from the last step to the first for all nodes together. The answer is false where it was
+// left off because no way has an end.
 fn end_rows(
-    starts: &[u16; 65],
+    starts: &[u16; 66],
     from: &[u8; 512],
     labels: &[u16; 512],
     to: &[u8; 512],
     sheet: &[u8],
     way: sheet::Steps,
     known: &[u64],
-) -> [u64; 64]
-    requires { ⌜ Held (total (now starts)) (now from) (now to) × Grouped (now starts) (now labels) × WayKnown (now sheet) way (length (now known)) ⌝ }
-    ensures { λ r. ⌜ r ≡ endRows (edges (total (now (starts .entry))) (now (from .entry)) (now (labels .entry)) (now (to .entry))) (now (known .entry)) (stepsOf (now (sheet .entry)) way) ⌝ }
+    rows: &mut [u64; 64],
+) -> bool
+    requires { ⌜ Held (total (now starts)) (now from) (now to) × Grouped (now starts) (now labels) × WayKnown (now sheet) way (length (now known)) × (length (now rows) ≡ 64) ⌝ }
+    ensures { λ r. ⌜ Ended (edges (total (now (starts .entry))) (now (from .entry)) (now (labels .entry)) (now (to .entry))) (now (known .entry)) (stepsOf (now (sheet .entry)) way) r (now (rows .exit)) ⌝ }
 {
-    let mut rows = singles();
+    singles(rows);
     let mut left = way.count;
     while 0 < left {
         left -= 1;
         let label = sheet::label(sheet, way, left);
         let tested = tested_word(sheet, way, left, known);
-        rows = edges::gather(starts, from, labels, to, label, tested, &rows);
+        if !edges::gather(starts, from, labels, to, label, tested, rows) {
+            return false;
+        }
     }
-    rows
-}
-
-// Whether x is a node of `every`, and some end of the first set and some end of the second pass.
-fn passes_at(every: u64, x: u8, first: u64, second: u64, rows: &[u64; 64]) -> bool
-    requires { ⌜ x < 64 ⌝ }
-    ensures { λ r. ⌜ r ≡ (bit every x && anyPasses first second (now (rows .entry))) ⌝ }
-{
-    if !words::has(every, x) {
-        return false;
-    }
-    edges::any_passes(first, second, rows)
+    true
 }
 
 // The nodes of `every` with an end in their first row and an end in their second that pass.
@@ -130,13 +120,14 @@ fn comparison_word(every: u64, rows: &[u64; 64], firsts: &[u64; 64], seconds: &[
     ensures { λ r. ⌜ r ≡ comparisonWord every (now (rows .entry)) (now (firsts .entry)) (now (seconds .entry)) ⌝ }
 {
     let mut out: u64 = 0;
-    let mut x: u8 = 0;
-    while x < 64 {
+    let mut left = every;
+    while left != 0 {
+        let x = words::lowest(left);
         let i = x as usize;
-        if passes_at(every, x, firsts[i], seconds[i], rows) {
+        if edges::any_passes(firsts[i], seconds[i], rows) {
             out = words::with(out, x);
         }
-        x += 1;
+        left = words::without(left, x);
     }
     out
 }
@@ -144,7 +135,7 @@ fn comparison_word(every: u64, rows: &[u64; 64], firsts: &[u64; 64], seconds: &[
 // The word of the same or differ at `at`, from the rows of that comparison.
 fn pair_word(
     every: u64,
-    starts: &[u16; 65],
+    starts: &[u16; 66],
     from: &[u8; 512],
     labels: &[u16; 512],
     to: &[u8; 512],
@@ -158,15 +149,21 @@ fn pair_word(
 {
     let first = sheet::first_way(sheet, at);
     let second = sheet::second_way(sheet, at);
-    let firsts = end_rows(starts, from, labels, to, sheet, first, known);
-    let seconds = end_rows(starts, from, labels, to, sheet, second, known);
+    let mut firsts = [0u64; 64];
+    if !end_rows(starts, from, labels, to, sheet, first, known, &mut firsts) {
+        return 0;
+    }
+    let mut seconds = [0u64; 64];
+    if !end_rows(starts, from, labels, to, sheet, second, known, &mut seconds) {
+        return 0;
+    }
     comparison_word(every, rows, &firsts, &seconds)
 }
 
-// The word of the entry at `at`, from the words of the entries before it.
-fn entry_word(
+// The word of the way, same or differ at `at`, from the words of the entries before it.
+fn path_word(
     every: u64,
-    starts: &[u16; 65],
+    starts: &[u16; 66],
     from: &[u8; 512],
     labels: &[u16; 512],
     to: &[u8; 512],
@@ -176,13 +173,10 @@ fn entry_word(
     at: usize,
     known: &[u64],
 ) -> u64
-    requires { ⌜ Held (total (now starts)) (now from) (now to) × Grouped (now starts) (now labels) × EntryKnown (now sheet) at (length (now known)) ⌝ }
+    requires { ⌜ Held (total (now starts)) (now from) (now to) × Grouped (now starts) (now labels) × EntryKnown (now sheet) at (length (now known)) × (4 ≤ kindOf (entryAt (now sheet) at)) ⌝ }
     ensures { λ r. ⌜ r ≡ entryWord (tables every (total (now (starts .entry))) (now (from .entry)) (now (labels .entry)) (now (to .entry)) (now (same .entry)) (now (differ .entry))) (now (known .entry)) (entryAt (now (sheet .entry)) at) ⌝ }
 {
     let kind = sheet::kind(sheet, at);
-    if kind < sheet::KIND_WAY {
-        return plain_word(every, sheet, at, known);
-    }
     if kind == sheet::KIND_WAY {
         let way = sheet::first_way(sheet, at);
         return way_word(every, starts, from, labels, to, sheet, way, known);
@@ -196,7 +190,7 @@ fn entry_word(
 // Writes the words of the first `upto` entries of an accepted sheet, from the front, over the nodes of `every`.
 pub fn evaluate(
     every: u64,
-    starts: &[u16; 65],
+    starts: &[u16; 66],
     from: &[u8; 512],
     labels: &[u16; 512],
     to: &[u8; 512],
@@ -212,18 +206,22 @@ pub fn evaluate(
     let mut at = sheet::entry_start(sheet, Question(0));
     let mut k = 0;
     while k < upto {
-        known[k] = entry_word(
-            every,
-            starts,
-            from,
-            labels,
-            to,
-            same,
-            differ,
-            sheet,
-            at,
-            known,
-        );
+        if sheet::kind(sheet, at) < sheet::KIND_WAY {
+            known[k] = plain_word(every, sheet, at, known);
+        } else {
+            known[k] = path_word(
+                every,
+                starts,
+                from,
+                labels,
+                to,
+                same,
+                differ,
+                sheet,
+                at,
+                known,
+            );
+        }
         at = sheet::next_start(sheet, at);
         k += 1;
     }

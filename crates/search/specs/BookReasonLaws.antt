@@ -1,20 +1,20 @@
 -- What a caller cites that has read an accepted book: its lists show the graph that is seen.
-use mathlib.Core.Bool.{Bool, true, false, So, cond, not}
+use mathlib.Core.Bool.{Bool, true, false, So, cond}
 use mathlib.Core.Path.{_≡_, refl, sym, ap, _∙_}
 use mathlib.Core.Logic.{_↔_}
 use mathlib.Core.List.{List}
 use Prim.Native.Nat.{ℕ, zero, suc, _<_}
 use native.Mathlib.Omega.{arith}
-use borrow.Author.Tests.{eqb-true, eq-eqb}
 use lib.Dec.{ltb}
 use lib.ListN.{getD}
-use Rattle.theory.specs.TestLaws.{never, and-iff, ltb-iff, list-at, eqb-turn}
-use Rattle.theory.specs.Graph.{Comparison, same, differ, compared}
+use Rattle.theory.specs.TestLaws.{never, and-iff, ltb-iff, list-at}
+use Rattle.theory.specs.Graph.{Comparison, same, differ}
 use Rattle.words.specs.Words.{bit, wordOf}
 use Rattle.words.specs.Laws.{bit-zero, bit-wordOf, bit-wordOf-lt}
 use Rattle.book.specs.Book.{cellsOf}
-use Rattle.book.specs.BookGraph.{dataValue, passes, seenOf}
+use Rattle.book.specs.BookGraph.{seenOf}
 use Rattle.book.specs.AcceptedLaws.{book-sizes, cell-few}
+use Rattle.book.specs.PassesLaws.{passes-symmetric, passes-alike, passes-own}
 use Rattle.book.specs.SeenLaws.{seen-graph}
 use Rattle.edges.specs.Edges.{rowsTo}
 use Rattle.edges.specs.BookEdges.{passingTo, passingRows, passing}
@@ -24,35 +24,6 @@ use Rattle.search_links.specs.Sets.{rowAt, Valued}
 use Rattle.search_links.specs.BookHopLaws.{seen-ordered, seen-out}
 use Rattle.search.specs.Reasons.{numberOf, Charted}
 use Rattle.search.specs.BookReasons.{Read}
-
--- a comparison of data values is the same from both sides
-compared-symmetric : (value : ℕ → ℕ) (t : Comparison) (x y : ℕ) → compared value t x y ≡ true → compared value t y x ≡ true
-unfolding compared
-compared-symmetric value same x y e = eqb-turn (value y) (value x) ∙ e
-compared-symmetric value differ x y e = ap not (eqb-turn (value y) (value x)) ∙ e
-
--- and goes by the values
-compared-alike : (value : ℕ → ℕ) (t : Comparison) (x y z : ℕ) → compared value same x y ≡ true → compared value t y z ≡ true → compared value t x z ≡ true
-unfolding compared
-compared-alike value same x y z e f = rw (eqb-true (value x) (value y) e) f
-compared-alike value differ x y z e f = rw (eqb-true (value x) (value y) e) f
-
--- so are those of two recordings, which ask besides that both are heard
-pub passes-symmetric : (t : Comparison) (a b : ℕ) → passes t a b ≡ true → passes t b a ≡ true
-unfolding passes
-passes-symmetric t a b e = let ((h, k), p) = simp and-iff at e in simp and-iff ((k, h), compared-symmetric dataValue t a b p)
-
-passes-alike : (t : Comparison) (a b c : ℕ) → passes same a b ≡ true → passes t b c ≡ true → passes t a c ≡ true
-unfolding passes
-passes-alike t a b c e f =
-    let ((h, _), p) = simp and-iff at e in
-    let ((_, k), q) = simp and-iff at f in
-    simp and-iff ((h, k), compared-alike dataValue t a b c p q)
-
--- and a recording that passes some comparison is the same as itself
-passes-own : (t : Comparison) (a b : ℕ) → passes t a b ≡ true → passes same a a ≡ true
-unfolding passes compared
-passes-own t a b e = let ((h, _), _) = simp and-iff at e in simp and-iff ((h, h), eq-eqb (dataValue a) (dataValue a) refl)
 
 module _ (h : ℕ) (s : List ℕ) (count : ℕ) (fs ls ts starts ends : List ℕ) (d : Read h s count fs ls ts starts ends) where
   -- row x of a comparison, in the table

@@ -156,9 +156,6 @@ module _ (ends : List ℕ) (t : ℕ) (lt : t < 2) (values : Valued ends) (w out 
   value-next more out′ dm dout =
       rw (dout, dm) (joins-more (joined (rowAt ends t) w) out (rowAt ends t i) (joined (rowAt ends t) left) (joined (rowAt ends t) left′) j (λ y l. value-split y))
 
-  pub value-less : left′ < left
-  value-less = omega (arith, m .most, d .less)
-
 -- ---- whether a link leads to a node of w
 module _ (to : List ℕ) (w until from k : ℕ) (j : meets to w from (until - from) ≡ meets to w k (until - k)) where
   leads-step : k < until → meets to w k (until - k) ≡ bit w (getD to k 0) || meets to w (k + 1) (until - (k + 1))

@@ -234,21 +234,26 @@ module _ (ls rs : List ℕ) (base n cells w : ℕ) where
       kept = λ y o h. ⊎-elim (turn-kept y o) inr (f .kept y o h);
     }
 
--- ---- nodes and those that stand in for them
-module _ (own : List ℕ) (wide : Bool) (new seen more : ℕ) (ds : seen ≡ seenAs own wide new) (dm : more ≡ bitOr new seen) where
-  bit-both : (y : ℕ) → bit more y ≡ bit new y || bit seen y
-  bit-both y = ap (λ (v : ℕ). bit v y) dm ∙ bit-or new seen y
+-- ---- nodes that stand in for some of a set, such that the table covers the tips of the others
+pub record StandIns (own : List ℕ) (wide : Bool) (ls rs : List ℕ) (n cells w r : ℕ) : Type 0 where
+  pub part : (y : ℕ) → So (bit r y) → (x : ℕ) × So (bit cells x) × StandsIn own wide x y
+  pub others : (y : ℕ) → y < 64 → So (bit cells y) → So (bit r y) ⊎ Covered ls rs n y w
 
-  both-whole : (y : ℕ) → So (bit new y) → So (bit more y)
-  both-whole y i = bit-both y ∙ or-iff _ _ .1 (inl i)
+pub stand-ins : (own : List ℕ) (wide : Bool) (ls rs : List ℕ) (n cells w new seen more : ℕ) → Rest ls rs n cells w new → seen ≡ seenAs own wide new
+    → more ≡ bitOr new seen → StandIns own wide ls rs n cells w more
+unfolding seenAs spread
+stand-ins own wide ls rs n cells w new seen more rest ds dm = record {
+  part = λ y i.
+      ⊎-elim (λ j. (y, rest .part y j, inl refl)) (λ j. stood y wide refl (ap (λ (v : ℕ). bit v y) (sym ds) ∙ j)) (or-iff _ _ .0 (sym (both y) ∙ i));
+  others = λ y l i. ⊎-elim (λ j. inl (both y ∙ or-iff _ _ .1 (inl j))) inr (rest .others y l i);
+}
+  where
+    both : (y : ℕ) → bit more y ≡ bit new y || bit seen y
+    both y = ap (λ (v : ℕ). bit v y) dm ∙ bit-or new seen y
 
-  both-sound : (y : ℕ) → So (bit more y) → (x : ℕ) × So (bit new x) × StandsIn own wide x y
-  unfolding seenAs spread
-  both-sound y i = ⊎-elim (λ j. (y, j, inl refl)) (λ j. stood wide refl (ap (λ (v : ℕ). bit v y) (sym ds) ∙ j)) (or-iff _ _ .0 (sym (bit-both y) ∙ i))
-    where
-      stood : (b : Bool) → wide ≡ b → So (bit (seenAs own b new) y) → (x : ℕ) × So (bit new x) × StandsIn own wide x y
-      stood true e j = let (l, (x, m, (p, q))) = simp (bit-wordOf, and-iff, any-iff) at j in (x, p, inr (e, q))
-      stood false e j = (y, j, inl refl)
+    stood : (y : ℕ) (b : Bool) → wide ≡ b → So (bit (seenAs own b new) y) → (x : ℕ) × So (bit cells x) × StandsIn own wide x y
+    stood y true e j = let (l, (x, m, (p, q))) = simp (bit-wordOf, and-iff, any-iff) at j in (x, rest .part x p, inr (e, q))
+    stood y false e j = (y, rest .part y j, inl refl)
 
 -- ---- tips are put into a table
 module _ (own : List ℕ) (wide : Bool) (ls rs : List ℕ) (base n cells w : ℕ) (room : TableRoom ls rs n) (least : base ≤ n) (new : ℕ) (rest : Rest ls rs n cells w new) where
@@ -278,31 +283,29 @@ module _ (own : List ℕ) (wide : Bool) (ls rs : List ℕ) (base n cells w : ℕ
     new = λ t. absurd (false≢true (sym t ∙ df));
   }
 
-  -- the others are joined to a class, and taken out of the classes with wider sets
-  module _ (seen more : ℕ) (ds : seen ≡ seenAs own wide new) (dm : more ≡ bitOr new seen)
-      (ls′ rs′ : List ℕ) (n′ : ℕ) (ls″ : List ℕ) (j : Joined ls rs base n more w ls′ rs′ n′) (f : Narrowed ls′ rs′ base n′ more w ls″) where
-    news : (y : ℕ) → y < 64 → So (bit more y) → Has ls″ rs′ n′ y w
-    news y l i = ⊎-elim (λ h. h) (λ (_, _, q). absurd (q refl)) (f .kept y w (j .new y l i))
+-- nodes that stand in for the others are taken out of the classes from `start` on with wider sets, and were joined to a class before. That the same nodes were
+-- joined, that the classes below `base` stay, and that the nodes stand in, are premises apart, so that a refusal shows which of them fails.
+module _ {ls rs : List ℕ} {base n more w : ℕ} {ls′ rs′ : List ℕ} {n′ start : ℕ} {ls″ : List ℕ} (f : Narrowed ls′ rs′ start n′ more w ls″)
+    (j : Joined ls rs base n more w ls′ rs′ n′) where
+  news : (y : ℕ) → y < 64 → So (bit more y) → Has ls″ rs′ n′ y w
+  news y l i = ⊎-elim (λ h. h) (λ (_, _, q). absurd (q refl)) (f .kept y w (j .new y l i))
 
-    keeps : (y o : ℕ) → Has ls rs n y o → Covered ls″ rs′ n′ y o
-    keeps y o h =
-        ⊎-elim (covered-by-has ls″ rs′ n′ y o) (λ (i, p, _). record { word = w; has = news y (h .cell) i; inside = p }) (f .kept y o (j .kept y o h))
+  keeps : (y o : ℕ) → Has ls rs n y o → Covered ls″ rs′ n′ y o
+  keeps y o h =
+      ⊎-elim (covered-by-has ls″ rs′ n′ y o) (λ (i, p, _). record { word = w; has = news y (h .cell) i; inside = p }) (f .kept y o (j .kept y o h))
 
-    pub put-done : (r : Grown) → r .count ≡ n′ → r .full ≡ false → Put own wide ls rs base n cells w ls″ rs′ r
-    put-done r dc df = record {
-      room = rw dc (f .room);
-      low = untouched-trans base ls rs ls′ rs′ (j .low) ls″ rs′ (f .low);
-      least = omega (arith, j .least);
-      few = omega (arith, j .few);
-      full = λ t. absurd (false≢true (sym df ∙ t));
-      sound = λ y o h.
-          ⊎-elim inl (λ (i, q). let (x, p, t) = both-sound own wide new seen more ds dm y i in inr (x, rest .part x p, t, q)) (j .sound y o (f .sound y o (rw dc at h)));
-      kept = rw dc keeps;
-      new = λ _ y l i. rw dc (⊎-elim
-          (λ i. covered-by-has ls″ rs′ n′ y w (news y l (both-whole own wide new seen more ds dm y i)))
-          (covered-trans ls rs n ls″ rs′ n′ keeps y w)
-          (rest .others y l i));
-    }
+  pub put-done : {own : List ℕ} {wide : Bool} {cells : ℕ} → Untouched base ls′ rs′ ls″ rs′ → StandIns own wide ls rs n cells w more
+      → Put own wide ls rs base n cells w ls″ rs′ (record { count = n′; full = false })
+  put-done u s = record {
+    room = f .room;
+    low = untouched-trans base ls rs ls′ rs′ (j .low) ls″ rs′ u;
+    least = j .least;
+    few = j .few;
+    full = λ t. absurd (false≢true t);
+    sound = λ y o h. ⊎-elim inl (λ (i, q). let (x, p, t) = s .part y i in inr (x, p, t, q)) (j .sound y o (f .sound y o h));
+    kept = keeps;
+    new = λ _ y l i. ⊎-elim (λ k. covered-by-has ls″ rs′ n′ y w (news y l k)) (covered-trans ls rs n ls″ rs′ n′ keeps y w) (s .others y l i);
+  }
 
 -- ---- tips are put into a table, those of one row at once: of each node, it is still to come, or the table covers its tip
 pub record Growing (z own ends : List ℕ) (wide : Bool) (ls₀ rs₀ : List ℕ) (base n cells s : ℕ) (ls rs : List ℕ) (count left : ℕ) : Type 0 where

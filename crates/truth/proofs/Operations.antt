@@ -25,7 +25,7 @@ use Rattle.sheet.specs.declared.SheetAnswer.{SheetAnswer}
 use Rattle.sheet.specs.declared.SheetAnswer.the-variants.{Accepted, Refused}
 use Rattle.edges.specs.Edges.{Rows}
 use Rattle.edges.specs.Groups.{total}
-use Rattle.edges.specs.BookEdges.{passing}
+use Rattle.edges.specs.BookEdges.{BothRows}
 use Rattle.edges.specs.BookLaws.{passing-rows}
 use Rattle.edge_groups.specs.Groups.{LoadedInGroups}
 use Rattle.edge_groups.specs.Laws.{inside-same}
@@ -59,8 +59,7 @@ seen-word b h n full r d e m =
     (λ x l. m .bits x ∙ ap (λ (y : Bool). y && not (bit h x)) (ap (λ w. bit w x) (e ∙ full-wordOf n) ∙ bit-wordOf-lt n (λ i. true) x l)))
 
 module _ (b : List ℕ) (h : ℕ) (starts fs ls ts : List ℕ) (o : LoadedInGroups h b starts fs ls ts) where
-  module _ (every : ℕ) (e : every ≡ seenWord h b) (sames differs : List ℕ) (f : sames ≡ passing h b same)
-      (g : differs ≡ passing h b differ) (r : bookRefusal b ≡ 0) where
+  module _ (every : ℕ) (e : every ≡ seenWord h b) (sames differs : List ℕ) (f : BothRows h b sames differs) (r : bookRefusal b ≡ 0) where
     tables-of : TablesOf (seenOf h b) (tables every (total starts) fs ls ts sames differs)
     unfolding seenWord
     tables-of =
@@ -74,8 +73,8 @@ module _ (b : List ℕ) (h : ℕ) (starts fs ls ts : List ℕ) (o : LoadedInGrou
         }
       where
         passes : (c : Comparison) → Rows (seenOf h b .size) (seenOf h b .ends c) (rowsFor (tables every (total starts) fs ls ts sames differs) c)
-        passes same = rw f (passing-rows h b same r)
-        passes differ = rw g (passing-rows h b differ r)
+        passes same = rw (f .first) (passing-rows h b same r)
+        passes differ = rw (f .second) (passing-rows h b differ r)
 
     pub words-written : (s ws ws′ : List ℕ) (upto : ℕ) → EntriesFit s upto (length ws) → ws′ ≡ evaluated (tables every (total starts) fs ls ts sames differs) s upto ws
         → ws′ ≡ firstWords b h s upto ws

@@ -9,6 +9,7 @@ ghost use Rattle.book.specs.Book.{cellsOf, bookRefusal};
 ghost use Rattle.book.specs.BookGraph.{hides, seenOf};
 ghost use Rattle.sheet.specs.Sheet.{countOf, questionOf, sheetRefusal};
 ghost use Rattle.sheet.specs.Known.{EntriesFit};
+ghost use Rattle.edge_groups.specs.Groups.{LoadedInGroups};
 ghost use Rattle.truth.specs.Truth.{firstWords, truthWords, truthOutcome, parts, claimOutcome, Told, IsTruth, IsTruthCode, IsClaim, IsClaimCode};
 ghost use Rattle.truth.specs.SeenCells.{seenWord};
 ghost use Rattle.truth.specs.Entered.{Admitted, Entered};
@@ -21,6 +22,9 @@ use outcome::OF_RIGHT_BOOK;
 use outcome::OF_SHEET;
 use sheet::Question;
 use sheet::SheetAnswer;
+
+// A sheet has many steps where it is longer than so many more entries without steps could make it.
+const MANY: usize = 12;
 
 // What Truth answers: the words are written; the refusal of the book; that the word hides what is no cell of it (31); the refusal of the
 // sheet; or fewer words than entries (24).
@@ -57,6 +61,49 @@ fn seen(book: &[u8], hidden: u64) -> u64
     words::minus(words::full(n), hidden)
 }
 
+// Whether an accepted sheet, of which `upto` entries are asked, has many steps, judged by its length: an entry without steps has at most 6 bytes. Nothing
+// is promised of the answer, which chooses between two ways to the same words.
+fn many_steps(sheet: &[u8], upto: usize) -> bool {
+    let entries = sheet.len() / 6;
+    if entries <= upto {
+        return false;
+    }
+    MANY < entries - upto
+}
+
+// Writes the words of the first `upto` entries of an accepted sheet, of an accepted book whose links are loaded.
+fn write_loaded(
+    book: &[u8],
+    hidden: u64,
+    starts: &[u16; 66],
+    from: &[u8; 512],
+    labels: &[u16; 512],
+    to: &[u8; 512],
+    sheet: &[u8],
+    upto: usize,
+    words: &mut [u64],
+)
+    requires { ⌜ (bookRefusal (now book) ≡ 0) × LoadedInGroups hidden (now book) (now starts) (now from) (now labels) (now to) × EntriesFit (now sheet) upto (length (now words)) ⌝ }
+    ensures { λ _. ⌜ now (words .exit) ≡ firstWords (now (book .entry)) hidden (now (sheet .entry)) upto (now (words .entry)) ⌝ }
+{
+    let mut same = [0u64; 64];
+    let mut differ = [0u64; 64];
+    edges::passing(book, hidden, &mut same, &mut differ);
+    let every = seen(book, hidden);
+    evaluate::evaluate(
+        every,
+        starts,
+        from,
+        labels,
+        to,
+        &same,
+        &differ,
+        sheet,
+        upto,
+        words,
+    );
+}
+
 // Writes the words of the first `upto` entries of an accepted sheet, of an accepted book.
 fn write_words(book: &[u8], hidden: u64, sheet: &[u8], upto: usize, words: &mut [u64])
     requires { ⌜ (bookRefusal (now book) ≡ 0) × EntriesFit (now sheet) upto (length (now words)) ⌝ }
@@ -65,18 +112,15 @@ fn write_words(book: &[u8], hidden: u64, sheet: &[u8], upto: usize, words: &mut 
     let mut from = [0u8; 512];
     let mut labels = [0u16; 512];
     let mut to = [0u8; 512];
-    let starts = edge_groups::load(book, hidden, &mut from, &mut labels, &mut to);
-    let same = edges::passing(book, hidden, edges::Comparison::Same);
-    let differ = edges::passing(book, hidden, edges::Comparison::Differ);
-    let every = seen(book, hidden);
-    evaluate::evaluate(
-        every,
+    let many = many_steps(sheet, upto);
+    let starts = edge_groups::load(book, hidden, many, &mut from, &mut labels, &mut to);
+    write_loaded(
+        book,
+        hidden,
         &starts,
         &from,
         &labels,
         &to,
-        &same,
-        &differ,
         sheet,
         upto,
         words,

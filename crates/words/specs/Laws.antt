@@ -1,9 +1,9 @@
 -- The laws of a word's bits, each stated once: the operations, extensionality, the word of a test, the count, the lowest bit, and a cell taken away.
 use mathlib.Core.Path.{_≡_, refl, sym, ap, ap₂, _∙_}
-use mathlib.Core.Bool.{Bool, true, false, false≢true, So, cond, _&&_, _||_, not, xor, and-false}
+use mathlib.Core.Bool.{Bool, true, false, false≢true, So, cond, _&&_, _||_, not, xor, and-false, and-assoc}
 use mathlib.Core.Logic.{_↔_, ⊎-elim}
 use Prim.Native.Nat.{ℕ, zero, suc, _+_, _-_, _*_, _/_, _%_, _^_, _≤_, _<_, suc-le-suc}
-use native.Mathlib.Nat.{mod-lt, div-one, zero-div, pow-suc, zero-lt-suc, lt-of-le-of-lt, one-mul, zero-add, eq-or-lt-of-le, pos-of-ne-zero}
+use native.Mathlib.Nat.{mod-lt, div-one, zero-div, pow-suc, zero-lt-suc, lt-of-le-of-lt, lt-of-lt-of-le, one-mul, zero-add, eq-or-lt-of-le, pos-of-ne-zero}
 use native.Mathlib.Numerals.{one-add, add-one}
 use native.Mathlib.Omega.{arith}
 use native.Mathlib.Decide.{decLt}
@@ -12,7 +12,7 @@ use lib.Arith.{lt-one}
 use lib.Bits.{bitAnd, bitOr, bitXor, and-shr, or-shr, xor-shr, and-mod, or-mod, xor-mod, xor-add-and, and-comm, and-lt, or-lt, xor-lt, and-le-l, or-shifted-r}
 use lib.Count.{ones, ones-step, trailingZeros, under}
 use lib.Dec.{eqb, ltb, eqb·zero-suc, eqb·suc-zero, eqb·suc-suc, leb·zero, leb·suc-zero, leb·suc-suc, lit<}
-use lib.Pow.{shr-shr, pow-pos, pow-lt}
+use lib.Pow.{shr-shr, pow-pos, pow-lt, pow-mono}
 use Rattle.words.specs.Words.{digit, bit, tally, first, wordOf, Inside}
 
 -- ---- digits
@@ -182,6 +182,12 @@ bit-wordOf-lt n p i l = bit-wordOf n p i ∙ ap (λ (b : Bool). b && p i) (lt-lt
 -- a word of n bits is the word of a test where its bits are what the test says
 pub wordOf-is : (n w : ℕ) (p : ℕ → Bool) → w < 2 ^ n → ((i : ℕ) → i < n → bit w i ≡ p i) → w ≡ wordOf n p
 wordOf-is n w p h f = word-ext n w (wordOf n p) h (wordOf-lt n p) (λ i l. f i l ∙ sym (bit-wordOf-lt n p i l))
+
+-- what is asked of some numbers below n, asked of all below m
+pub wordOf-among : (n m : ℕ) (p q : ℕ → Bool) → n ≤ m → wordOf m (λ i. bit (wordOf n p) i && q i) ≡ wordOf n (λ i. p i && q i)
+wordOf-among n m p q h =
+    word-ext m _ _ (wordOf-lt m _) (lt-of-lt-of-le (wordOf-lt n _) (pow-mono h))
+    (λ i l. bit-wordOf-lt m _ i l ∙ ap (λ (b : Bool). b && q i) (bit-wordOf n p i) ∙ and-assoc (ltb i n) (p i) (q i) ∙ sym (bit-wordOf n _ i))
 
 op-wordOf : {op : ℕ → ℕ → ℕ} {on : Bool → Bool → Bool} → Bitwise op on → (n : ℕ) (p q : ℕ → Bool) → op (wordOf n p) (wordOf n q) ≡ wordOf n (λ i. on (p i) (q i))
 op-wordOf {op} {on} f n p q =

@@ -1,6 +1,8 @@
 -- `compare_lists::read` meets its contract.
 use Rattle.compare_lists.proofs.Exits.{read-whole}
+use mathlib.Core.Path.{refl}
 use borrow.Author.Needs.{needs}
+use Rattle.edges.specs.Edges.{emptyRows}
 use Rattle.compare_lists.proofs.read.Statement.{statement}
 use Rattle.compare_lists.proofs.read.Tie as tie
 
@@ -11,10 +13,8 @@ starts-requires : tie.Need-starts-requires
 starts-requires c κs = search needs
 
 passing-requires : tie.Need-passing-requires
-passing-requires c κs = search needs
-
-passing-requires-2 : tie.Need-passing-requires-2
-passing-requires-2 c κs = search needs
+unfolding emptyRows
+passing-requires c κs = (search needs, refl, refl)
 
 paired-requires : tie.Need-paired-requires
 paired-requires c κs = search needs
@@ -29,6 +29,5 @@ read-spec =
     load-requires
     starts-requires
     passing-requires
-    passing-requires-2
     paired-requires
     returns)

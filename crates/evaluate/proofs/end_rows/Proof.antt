@@ -10,7 +10,7 @@ use Rattle.edges.specs.Groups.{total, Grouped}
 use Rattle.sheet.specs.Known.{WayKnown}
 use Rattle.evaluate.specs.Evaluation.{endRows}
 use Rattle.sheet.specs.KnownLaws.{has-step}
-use Rattle.evaluate.proofs.Laws.{rows-start, rows-next, rows-end}
+use Rattle.evaluate.proofs.Laws.{rows-start, rows-next, rows-none, rows-end}
 use Rattle.evaluate.proofs.end_rows.Statement.{statement}
 use Rattle.evaluate.proofs.end_rows.Tie as tie
 
@@ -39,14 +39,17 @@ tested-word-requires c κs = search needs
 gather-requires : tie.Need-gather-requires Inv-loop μ-loop
 gather-requires c κs = search needs
 
+returns : tie.Need-returns Inv-loop μ-loop
+returns c = search rows-none
+
 loop-less : tie.Need-loop-less Inv-loop μ-loop
 loop-less c = omega arith
 
 loop-again : tie.Need-loop-again Inv-loop μ-loop
 loop-again c = (search rows-next, omega arith, search needs, search needs, search needs)
 
-returns : tie.Need-returns Inv-loop μ-loop
-returns c = search rows-end
+returns-2 : tie.Need-returns-2 Inv-loop μ-loop
+returns-2 c = search rows-end
 
 pub end-rows-spec : {M : Type 1} → statement M
 end-rows-spec =
@@ -60,6 +63,7 @@ end-rows-spec =
     label-requires
     tested-word-requires
     gather-requires
+    returns
     loop-less
     loop-again
-    returns)
+    returns-2)

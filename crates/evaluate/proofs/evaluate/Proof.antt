@@ -1,5 +1,6 @@
 -- `evaluate::evaluate` meets its contract. The invariant: what is written from here on is what is written from the start on, and entry k starts at `at`.
 use mathlib.Core.Path.{_≡_}
+use mathlib.Core.Logic.{⊎-elim}
 use Prim.Native.Nat.{_≤_, _-_}
 use native.Mathlib.Omega.{arith}
 use borrow.Author.Needs.{needs}
@@ -10,7 +11,7 @@ use Rattle.edges.specs.Groups.{total, Grouped}
 use Rattle.sheet.specs.Known.{EntriesFit}
 use Rattle.evaluate.specs.Evaluation.{tables, evaluatedFrom, evaluated}
 use Rattle.sheet.specs.KnownLaws.{fit-first, fit-known, fit-readable, start-next}
-use Rattle.evaluate.proofs.Laws.{evaluate-start, evaluate-next, evaluate-end}
+use Rattle.evaluate.proofs.Laws.{evaluate-start, evaluate-next, evaluate-plain, evaluate-long, evaluate-end}
 use Rattle.evaluate.proofs.evaluate.Statement.{statement}
 use Rattle.evaluate.proofs.evaluate.Tie as tie
 
@@ -27,14 +28,26 @@ entry-start-requires c κs = search fit-first
 loop-holds : tie.Need-loop-holds Inv-loop μ-loop
 loop-holds c = (search evaluate-start, search needs, omega arith, search needs, search needs, search needs, search needs)
 
-entry-word-requires : tie.Need-entry-word-requires Inv-loop μ-loop
-entry-word-requires c κs = (search needs, search needs, search fit-known)
+kind-requires : tie.Need-kind-requires Inv-loop μ-loop
+kind-requires c κs = search fit-readable
+
+plain-word-requires : tie.Need-plain-word-requires Inv-loop μ-loop
+plain-word-requires c κs = (search fit-known, search needs)
 
 mul-known : tie.Need-mul-known Inv-loop μ-loop
 mul-known c = search needs
 
 slice-write-known : tie.Need-slice-write-known Inv-loop μ-loop
 slice-write-known c = search needs
+
+path-word-requires : tie.Need-path-word-requires Inv-loop μ-loop
+path-word-requires c κs = (search needs, search needs, search fit-known, search needs)
+
+mul-known-2 : tie.Need-mul-known-2 Inv-loop μ-loop
+mul-known-2 c = search needs
+
+slice-write-known-2 : tie.Need-slice-write-known-2 Inv-loop μ-loop
+slice-write-known-2 c = search needs
 
 next-start-requires : tie.Need-next-start-requires Inv-loop μ-loop
 next-start-requires c κs = search fit-readable
@@ -46,7 +59,12 @@ loop-less : tie.Need-loop-less Inv-loop μ-loop
 loop-less c = omega arith
 
 loop-again : tie.Need-loop-again Inv-loop μ-loop
-loop-again c = (search evaluate-next, search start-next, omega arith, search needs, search needs, search needs, search needs)
+loop-again c =
+    let i = c .before .before .before .before .loop .inv in
+    ⊎-elim
+    (λ w. (search (evaluate-plain _ _ _ _ _ _ _ (i .0)), search start-next, omega arith, search (evaluate-long _ _ _ _ _ _ _ (i .0) _ (i .3)), search needs, search needs, search needs))
+    (λ w. (search (evaluate-next _ _ _ _ _ _ _ (i .0)), search start-next, omega arith, search (evaluate-long _ _ _ _ _ _ _ (i .0) _ (i .3)), search needs, search needs, search needs))
+    (c .before .if1 .came)
 
 same-length : tie.Need-same-length Inv-loop μ-loop
 same-length c = search needs
@@ -62,9 +80,13 @@ evaluate-spec =
     μ-loop
     entry-start-requires
     loop-holds
-    entry-word-requires
+    kind-requires
+    plain-word-requires
     mul-known
     slice-write-known
+    path-word-requires
+    mul-known-2
+    slice-write-known-2
     next-start-requires
     add-k
     loop-less

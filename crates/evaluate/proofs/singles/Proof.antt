@@ -1,22 +1,21 @@
 -- `evaluate::singles` meets its contract. The invariant: the first x rows are written.
-use mathlib.Core.Path.{_≡_, refl}
+use mathlib.Core.Path.{_≡_}
 use Prim.Native.Nat.{_≤_, _-_}
 use native.Mathlib.Omega.{arith}
 use borrow.Author.Needs.{needs}
-use Rattle.edges.specs.Edges.{emptyRows}
+use lib.ListN.{length}
 use Rattle.evaluate.proofs.Laws.{singlesTo, singles-start, singles-next, singles-end}
 use Rattle.evaluate.proofs.singles.Statement.{statement}
 use Rattle.evaluate.proofs.singles.Tie as tie
 
 abbrev Inv-loop : tie.InvT-loop
-Inv-loop rows₀ x₀ rows x = (rows ≡ singlesTo x) × (x ≤ 64)
+Inv-loop rows₀ x₀ rows x = (rows ≡ singlesTo x rows₀) × (x ≤ 64) × (length rows₀ ≡ 64)
 
 abbrev μ-loop : tie.MeasureT-loop
 μ-loop rows₀ x₀ rows x = 64 - x
 
 loop-holds : tie.Need-loop-holds Inv-loop μ-loop
-unfolding emptyRows
-loop-holds c = (singles-start _ refl, omega arith)
+loop-holds c = (search singles-start, omega arith, search needs)
 
 only-requires : tie.Need-only-requires Inv-loop μ-loop
 only-requires c κs = omega arith
@@ -27,8 +26,8 @@ cast-rows c = search needs
 mul-rows : tie.Need-mul-rows Inv-loop μ-loop
 mul-rows c = search needs
 
-array-write-rows : tie.Need-array-write-rows Inv-loop μ-loop
-array-write-rows c = search needs
+element-write-rows : tie.Need-element-write-rows Inv-loop μ-loop
+element-write-rows c = search needs
 
 add-x : tie.Need-add-x Inv-loop μ-loop
 add-x c = omega arith
@@ -37,7 +36,7 @@ loop-less : tie.Need-loop-less Inv-loop μ-loop
 loop-less c = omega arith
 
 loop-again : tie.Need-loop-again Inv-loop μ-loop
-loop-again c = (search singles-next, omega arith)
+loop-again c = (search singles-next, omega arith, search needs)
 
 returns : tie.Need-returns Inv-loop μ-loop
 returns c = search singles-end
@@ -52,7 +51,7 @@ singles-spec =
     only-requires
     cast-rows
     mul-rows
-    array-write-rows
+    element-write-rows
     add-x
     loop-less
     loop-again

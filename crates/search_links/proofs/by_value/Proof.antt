@@ -4,7 +4,7 @@ use borrow.Author.Needs.{needs}
 use Prim.Native.Nat.{_^_, _<_}
 use lib.Dec.{lit<}
 use Rattle.search_links.specs.Sets.{rowAt}
-use Rattle.search_links.proofs.Laws.{Joins, joined, spread-start, spread-end, value-next, value-less}
+use Rattle.search_links.proofs.Laws.{Joins, joined, spread-start, spread-end, value-next}
 use Rattle.search_links.proofs.by_value.Statement.{statement}
 use Rattle.search_links.proofs.by_value.Tie as tie
 
@@ -36,7 +36,7 @@ minus-requires : tie.Need-minus-requires Inv-loop μ-loop
 minus-requires c κs = search needs
 
 loop-less : tie.Need-loop-less Inv-loop μ-loop
-loop-less c = search value-less
+loop-less c = omega arith
 
 loop-again : tie.Need-loop-again Inv-loop μ-loop
 loop-again c = (search value-next, omega arith, omega arith)

@@ -1,5 +1,5 @@
 -- `search_tables::put` meets its contract.
-use Rattle.search_tables.proofs.Exits.{put-none, put-full, put-done}
+use Rattle.search_tables.proofs.Exits.{put-none, put-full, stand-ins, put-done}
 use borrow.Author.Needs.{needs}
 use Rattle.search_tables.proofs.put.Statement.{statement}
 use Rattle.search_tables.proofs.put.Tie as tie
@@ -29,7 +29,12 @@ narrow-requires : tie.Need-narrow-requires
 narrow-requires c κs = search needs
 
 returns-3 : tie.Need-returns-3
-returns-3 c = search put-done
+returns-3 c =
+    put-done
+    (c .narrow .ensures)
+    (search needs)  -- the nodes that are taken out of wider classes were joined to one
+    (search needs)  -- narrowing leaves the classes below `base` as they were
+    (search stand-ins)  -- these nodes stand in for those that were not covered
 
 pub put-spec : {M : Type 1} → statement M
 put-spec =

@@ -1,37 +1,37 @@
--- `edges::passing_with` meets its contract. The invariant: the word has the cells passed.
+-- `edges::same_with` meets its contract. The invariant: the word has the cells passed.
 use mathlib.Core.Path.{_≡_}
 use mathlib.Core.Logic.{⊎-elim}
 use Prim.Native.Nat.{_-_, _≤_}
 use native.Mathlib.Omega.{arith}
 use borrow.Author.Needs.{needs}
-use Rattle.edges.specs.BookEdges.{comparisonOf, passingIn}
+use Rattle.edges.specs.BookEdges.{sameIn}
 use Rattle.edges.proofs.Books.{word-none, word-more, word-skip, word-all}
-use Rattle.edges.proofs.passing_with.Statement.{statement}
-use Rattle.edges.proofs.passing_with.Tie as tie
+use Rattle.edges.proofs.same_with.Statement.{statement}
+use Rattle.edges.proofs.same_with.Tie as tie
 
 abbrev Inv-loop : tie.InvT-loop
-Inv-loop list n comparison x here out₀ y₀ out y = (out ≡ passingIn list (comparisonOf comparison) x y) × (y ≤ n) × (n ≤ 64)
+Inv-loop list n x here out₀ y₀ out y = (out ≡ sameIn list x y) × (y ≤ n) × (n ≤ 64)
 
 abbrev μ-loop : tie.MeasureT-loop
-μ-loop list n comparison x here out₀ y₀ out y = n - y
+μ-loop list n x here out₀ y₀ out y = n - y
 
-mul-t9 : tie.Need-mul-t9 Inv-loop μ-loop
-mul-t9 c = omega arith
+mul-t8 : tie.Need-mul-t8 Inv-loop μ-loop
+mul-t8 c = omega arith
 
-element-copy-out-t12 : tie.Need-element-copy-out-t12 Inv-loop μ-loop
-element-copy-out-t12 c = omega arith
+element-copy-out-t11 : tie.Need-element-copy-out-t11 Inv-loop μ-loop
+element-copy-out-t11 c = omega arith
 
 loop-holds : tie.Need-loop-holds Inv-loop μ-loop
 loop-holds c = (search word-none, omega arith, search needs)
 
-mul-t14 : tie.Need-mul-t14 Inv-loop μ-loop
-mul-t14 c = omega arith
+mul-t13 : tie.Need-mul-t13 Inv-loop μ-loop
+mul-t13 c = omega arith
 
-element-copy-out-t17 : tie.Need-element-copy-out-t17 Inv-loop μ-loop
-element-copy-out-t17 c = omega arith
+element-copy-out-t16 : tie.Need-element-copy-out-t16 Inv-loop μ-loop
+element-copy-out-t16 c = omega arith
 
-passes-requires : tie.Need-passes-requires Inv-loop μ-loop
-passes-requires c κs = search needs
+same-requires : tie.Need-same-requires Inv-loop μ-loop
+same-requires c κs = search needs
 
 cast-with : tie.Need-cast-with Inv-loop μ-loop
 cast-with c = omega arith
@@ -52,18 +52,18 @@ loop-again c =
 returns : tie.Need-returns Inv-loop μ-loop
 returns c = search word-all
 
-pub passing-with-spec : {M : Type 1} → statement M
-passing-with-spec =
+pub same-with-spec : {M : Type 1} → statement M
+same-with-spec =
     tie.close
     (tie.spec
     Inv-loop
     μ-loop
-    mul-t9
-    element-copy-out-t12
+    mul-t8
+    element-copy-out-t11
     loop-holds
-    mul-t14
-    element-copy-out-t17
-    passes-requires
+    mul-t13
+    element-copy-out-t16
+    same-requires
     cast-with
     with-requires
     add-y
