@@ -1,12 +1,11 @@
 //! A call of Compare or its one-way form, timed, and the lists that are lent to it.
 
-use crate::clock::running;
 use crate::support::hidden::{Hidden, NOTHING};
 use crate::support::library::needed;
 use crate::support::outcome::Outcome;
 use crate::support::sides::Sides;
 use std::hint::black_box;
-use std::time::Duration;
+use std::time::{Duration, Instant};
 
 pub type Compare =
     fn(Sides, &[u8], &[u8], usize, Hidden, &mut [u16], &mut [u8], &mut [u8]) -> Outcome;
@@ -31,8 +30,7 @@ impl Lists {
     }
 }
 
-/// The answer and the time of one call, with nothing hidden; never 0, where the clock did not go on. All three lists are filled with ones before, outside of
-/// the time.
+/// The answer and the time of one call, with nothing hidden. All three lists are filled with ones before, outside of the time.
 pub fn timed(
     compare: Compare,
     sides: Sides,
@@ -46,7 +44,7 @@ pub fn timed(
     lists.scratch.fill(u8::MAX);
     let Lists { map, room, scratch } = black_box(lists);
     let (left, right) = (black_box(left), black_box(right));
-    let start = running();
+    let start = Instant::now();
     let answer = compare(sides, left, right, bound, NOTHING, map, room, scratch);
-    (answer, (running() - start).max(Duration::from_nanos(1)))
+    (answer, start.elapsed())
 }

@@ -2,7 +2,6 @@
 //! 1, and the library on the same books written in version 2, in one run. `compare one-way` and `compare two-sided` time one of them.
 
 mod calls;
-mod clock;
 mod families;
 #[path = "../tests/plain/compare.rs"]
 mod plain_compare;
@@ -84,7 +83,7 @@ impl Versions {
 
 fn main() {
     println!(
-        "best of {LEAST} to {MOST} calls each, by turns, or of {LEAST_LONG} above a second; times on the processor in ms; map, room and scratch are filled with ones before each call"
+        "best of {LEAST} to {MOST} calls each, by turns, or of {LEAST_LONG} above a second; times in ms; map, room and scratch are filled with ones before each call"
     );
     match env::args().nth(1) {
         None => FORMS.into_iter().for_each(tables),

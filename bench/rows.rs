@@ -4,7 +4,6 @@
 //! written; and the time in ms.
 
 mod calls;
-mod clock;
 mod families;
 #[path = "../tests/support/mod.rs"]
 mod support;

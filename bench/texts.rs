@@ -1,16 +1,14 @@
 //! Texts of questions, and their lengths alone: the library beside plain Rust of the same method, on the same inputs in one run.
 
-mod clock;
 #[path = "../tests/plain/texts.rs"]
 mod plain_texts;
 mod questions;
 #[path = "../tests/support/mod.rs"]
 mod support;
 
-use clock::running;
 use questions::{measured, written, Asked};
 use std::hint::black_box;
-use std::time::Duration;
+use std::time::{Duration, Instant};
 use support::library;
 use support::outcome::{accepted, Outcome};
 
@@ -30,7 +28,7 @@ type Call = fn(&[u8], usize, &mut [u8]) -> Outcome;
 
 fn main() {
     println!(
-        "best of {LEAST} to {MOST} calls each, by turns; times on the processor in ms; the room is filled with ones before each call"
+        "best of {LEAST} to {MOST} calls each, by turns; times in ms; the room is filled with ones before each call"
     );
     println!(
         "{:<60}{:>10}{:>12}{:>12}{:>12}{:>8}",
@@ -57,9 +55,9 @@ fn main() {
 fn timed(call: Call, asked: &Asked, room: &mut [u8]) -> (Outcome, Duration) {
     room.fill(u8::MAX);
     let (sheet, room) = (black_box(&asked.sheet), black_box(room));
-    let start = running();
+    let start = Instant::now();
     let answer = call(sheet, asked.entry, room);
-    (answer, running() - start)
+    (answer, start.elapsed())
 }
 
 /// Calls both by turns, with a room of so many bytes each, and prints what they took; each time they give the same answer and leave

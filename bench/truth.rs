@@ -1,17 +1,15 @@
 //! Truth on 64 cells, 512 links and 16,385 entries, in either version: the library beside a plain Rust evaluator, on the same inputs in one
 //! run.
 
-mod clock;
 #[path = "../tests/plain/truth.rs"]
 mod plain;
 mod sheets;
 #[path = "../tests/support/mod.rs"]
 mod support;
 
-use clock::running;
 use sheets::largest;
 use std::hint::black_box;
-use std::time::Duration;
+use std::time::{Duration, Instant};
 use support::library;
 use support::versions::VERSIONS;
 
@@ -78,9 +76,9 @@ fn timed(
     truth: impl Fn(&[u8], &[u8], &mut [u64]) -> bool,
 ) -> Duration {
     words.fill(0);
-    let start = running();
+    let start = Instant::now();
     let done = truth(black_box(book), black_box(sheet), black_box(&mut *words));
-    let time = running() - start;
+    let time = start.elapsed();
     assert!(done);
     time
 }

@@ -1,4 +1,5 @@
-//! Truth of one library, as `bench/rows.rs` has Compare: for each line read, the number of a book with a sheet and the sheet's bound.
+//! Truth or Claim of one library, as `bench/rows.rs` has Compare: for each line read, the number of a book with a sheet and the sheet's bound. Claim is
+//! asked of the last entry, at the first cell of the book on both sides.
 
 mod sheets;
 #[path = "../tests/support/mod.rs"]
@@ -10,7 +11,12 @@ use std::hash::{DefaultHasher, Hash, Hasher};
 use std::hint::black_box;
 use std::io::stdin;
 use std::time::{Duration, Instant};
+use support::hidden::NOTHING;
 use support::library;
+use support::outcome::Outcome;
+
+/// An operation that writes words: of a book, a sheet and the number of its last entry.
+type Operation = fn(&[u8], &[u8], usize, &mut [u64]) -> Outcome;
 
 /// A row's calls take so long in all, and are timed by so long together.
 const MEASURED: Duration = Duration::from_millis(3);
@@ -24,31 +30,36 @@ fn main() {
         .collect();
     println!("{}", cases.len());
     let number = |field: &str| field.parse::<usize>().expect("a number");
-    let version = number(&env::args().nth(1).expect("a version")) as u8;
+    let argument = |place, what| env::args().nth(place).expect(what);
+    let version = number(&argument(1, "a version")) as u8;
+    let operation: Operation = match argument(2, "an operation").as_str() {
+        "truth" => |book, sheet, _, words| library::truth(book, 0, sheet, words),
+        "claim" => {
+            |book, sheet, last, words| library::claim(book, book, NOTHING, sheet, last, 0, 0, words)
+        }
+        _ => panic!("truth or claim"),
+    };
     for line in stdin().lines() {
         let line = line.expect("a line");
         let (case, _) = line.split_once(' ').expect("two numbers");
         let (group, case) = &cases[number(case)];
-        println!("{group}\t{}", row(case, version));
+        println!("{group}\t{}", row(case, version, operation));
     }
 }
 
 /// The other fields of a row: the time is that of the shortest calls.
-fn row(case: &Case, version: u8) -> String {
+fn row(case: &Case, version: u8, operation: Operation) -> String {
     let (book, sheet) = (case.book.bytes(version), case.sheet.bytes(version));
-    let mut words = vec![0u64; case.sheet.entries.len()];
+    let entries = case.sheet.entries.len();
+    let mut words = vec![0u64; entries];
     let mut calls = |count: u32| {
         let start = Instant::now();
         for _ in 0..count {
-            let answer = library::truth(
-                black_box(&book),
-                0,
-                black_box(&sheet),
-                black_box(&mut words),
-            );
+            let (book, sheet) = (black_box(&book), black_box(&sheet));
+            let answer = operation(book, sheet, entries - 1, black_box(&mut words));
             assert_eq!(answer.refusal, 0, "{}", case.name);
         }
-        start.elapsed().max(Duration::from_nanos(1))
+        start.elapsed()
     };
     let mut count = 1;
     while calls(count) < TOGETHER {

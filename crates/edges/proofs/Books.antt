@@ -14,7 +14,7 @@ use Rattle.theory.specs.Search.{list}
 use Rattle.theory.specs.TestLaws.{list-ext}
 use Rattle.theory.specs.Graph.{same, Link, Inside}
 use Rattle.words.specs.Words.{wordOf, IsMinus}
-use Rattle.words.specs.Laws.{word-in, word-out, wordOf-ext, wordOf-is}
+use Rattle.words.specs.Laws.{bit-zero, word-in, word-out, wordOf-ext, wordOf-is}
 use Rattle.book.specs.Book.{cellsOf, linksOf, linkAt, bookRefusal, asLink}
 use Rattle.book.specs.BookGraph.{passes, hides, clear, kept, seenLinks, seenRecording, seenOf}
 use Rattle.book.specs.AcceptedLaws.{book-sizes, book-link}
@@ -38,6 +38,10 @@ module _ (s : List ℕ) (r : bookRefusal s ≡ 0) where
   cells-few n d = omega (arith, book-sizes s r .few)
 
 -- ---- a link's cells
+pub none-hidden : (h : ℕ) (l : BookLink) → h ≡ 0 → true ≡ clear h (asLink l)
+unfolding clear
+none-hidden h l e = rw (e, bit-zero (l .from), bit-zero (l .to))
+
 module _ (h : ℕ) (l : BookLink) (a : Bool) (da : a ≡ hides h (l .from)) where
   pub from-hidden : a ≡ true → false ≡ clear h (asLink l)
   unfolding clear

@@ -20,6 +20,9 @@ fn clear(hidden: u64, link: BookLink) -> bool
     requires { ⌜ (link .from < 64) × (link .to < 64) ⌝ }
     ensures { λ r. ⌜ r ≡ clear hidden (asLink link) ⌝ }
 {
+    if hidden == 0 {
+        return true;
+    }
     if words::has(hidden, link.from) {
         return false;
     }

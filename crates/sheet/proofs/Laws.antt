@@ -3,8 +3,8 @@
 use mathlib.Core.Bool.{cond}
 use mathlib.Core.List.{List, [], _∷_}
 use mathlib.Core.Path.{_≡_, refl, sym, ap, ap₂, _∙_}
-use Prim.Native.Nat.{ℕ, zero, suc, _+_, _-_, _*_, _≤_, _<_}
-use native.Mathlib.Nat.{mul-le-mul, mul-le-mul-left, mul-le-mul-right}
+use Prim.Native.Nat.{ℕ, suc, _+_, _-_, _*_, _≤_, _<_}
+use native.Mathlib.Nat.{pos-of-ne-zero, mul-add, mul-le-mul, mul-le-mul-left, mul-le-mul-right}
 use native.Mathlib.Omega.{arith}
 use borrow.Author.Tests.{lt-ltb, le-ltb, le-leb, lt-leb, eq-eqb, ne-eqb}
 use lib.Dec.{ltb}
@@ -18,7 +18,7 @@ use Rattle.sheet.specs.AcceptedLaws.{entryStart-next}
 use Rattle.sheet.specs.Reading.{Readable, HasNumber, HasWay, HasStep, Reads, stepsOf, firstPlace, secondPlace}
 use Rattle.sheet.specs.ReadingLaws.{readable, kind-read, number-read, first-reads, second-two, second-reads, steps-in}
 use Rattle.sheet.specs.PassedLaws.{kind-passed, standing, headed, accepted-head}
-use Rattle.sheet.proofs.Bodies.{numbers-append, body-true, body-not, body-two, body-way, body-comparison, body-plain}
+use Rattle.sheet.proofs.Bodies.{numbers-append, tests-append, steps-add, body-true, body-not, body-two, body-way, body-comparison, body-plain}
 use Rattle.outcome.specs.Outcome.{outcome, code}
 use Rattle.sheet.specs.declared.Steps.{Steps}
 use Rattle.sheet.specs.declared.SheetAnswer.{SheetAnswer}
@@ -109,44 +109,52 @@ module _ (s : List ℕ) (n at i : ℕ) (d : i ≡ numberAt s at) where
   unfolding numbersRefusal
   number-later h = simp (← d, le-ltb i n h)
 
--- ---- the tests of steps, one turn at a time
-module _ (v at left label m : ℕ) (p : 0 < left) (d : label ≡ labelWidth v) (e : at + stepWidth v * left ≡ m) where
-  first : stepWidth v * left ≡ stepWidth v + stepWidth v * (left - 1)
-  first = let q : left ≡ 1 + (left - 1) = omega arith in ap (λ k. stepWidth v * k) q ∙ (let w : stepWidth v * (1 + (left - 1)) ≡ stepWidth v + stepWidth v * (left - 1) = omega arith in w)
+-- ---- the tests of steps: of the first k, and then of the others
+pub one-test : (v : ℕ) (s : List ℕ) (n at label r : ℕ) → label ≡ labelWidth v → r ≡ numbersRefusal n (numberAt s (at + label) ∷ []) → r ≡ numbersRefusal n (tests (stepsAt v s at 1))
+unfolding tests stepsAt
+one-test v s n at label r d e = e ∙ rw d refl
 
-  pub tests-room : (n : ℕ) → m ≤ n → at + label + 2 ≤ n
-  tests-room n h = omega (arith, first)
+module _ (v : ℕ) (s : List ℕ) (n at k r : ℕ) (d : r ≡ numbersRefusal n (tests (stepsAt v s at k))) where
+  both-parts : (m : ℕ) → numbersRefusal n (tests (stepsAt v s at (k + m))) ≡ firstOf r (numbersRefusal n (tests (stepsAt v s (at + stepWidth v * k) m)))
+  both-parts m =
+      ap (λ ss. numbersRefusal n (tests ss)) (steps-add v s at k m) ∙ ap (numbersRefusal n) (tests-append (stepsAt v s at k) _)
+      ∙ numbers-append n (tests (stepsAt v s at k)) _ ∙ rw d refl
 
-  pub tests-on : at + (label + 2) + stepWidth v * (left - 1) ≡ m
-  tests-on = omega (arith, first)
+  module _ (whole left : ℕ) (i : whole ≡ numbersRefusal n (tests (stepsAt v s at left))) (h : k ≤ left) where
+    by-parts : whole ≡ firstOf r (numbersRefusal n (tests (stepsAt v s (at + stepWidth v * k) (left - k))))
+    by-parts = i ∙ ap (λ m. numbersRefusal n (tests (stepsAt v s at m))) (let e : left ≡ k + (left - k) = omega arith in e) ∙ both-parts (left - k)
 
-pub tests-end : (v : ℕ) (s : List ℕ) (n base count at left : ℕ)
-    → numbersRefusal n (tests (stepsAt v s base count)) ≡ numbersRefusal n (tests (stepsAt v s at left)) → left ≤ 0
-    → 0 ≡ numbersRefusal n (tests (stepsAt v s base count))
-unfolding numbersRefusal tests stepsAt
-tests-end v s n base count at zero i h = sym i
-tests-end v s n base count at (suc left) i h = absurd (omega arith)
+    pub tests-stop : (r ≡ 0 → ⊥) → r ≡ whole
+    tests-stop f = sym (by-parts ∙ simp (ne-eqb r 0 f))
 
-module _ (v : ℕ) (s : List ℕ) (n base count at left : ℕ) (i : numbersRefusal n (tests (stepsAt v s base count)) ≡ numbersRefusal n (tests (stepsAt v s at left)))
-    (p : 0 < left) (l : ℕ) (dl : l ≡ labelWidth v) (t : ℕ) (d : t ≡ numberAt s (at + l)) where
-  named : t ≡ numberAt s (at + labelWidth v)
-  named = rw (← dl) d
+    pub tests-next : r ≡ 0 → (b : ℕ) → b ≡ stepWidth v * k → whole ≡ numbersRefusal n (tests (stepsAt v s (at + b) (left - k)))
+    tests-next z b e = rw e (by-parts ∙ simp (eq-eqb r 0 z))
 
-  pub tests-stop : n ≤ t → 12 ≡ numbersRefusal n (tests (stepsAt v s base count))
+module _ (v : ℕ) (s : List ℕ) (n at r : ℕ) (d : r ≡ numbersRefusal n (tests (stepsAt v s at 1))) where
+  pub two-tests-first : (r ≡ 0 → ⊥) → r ≡ numbersRefusal n (tests (stepsAt v s at 2))
+  two-tests-first f = tests-stop v s n at 1 r d _ 2 refl (omega arith) f
+
+  pub two-tests-second : r ≡ 0 → (b : ℕ) → b ≡ stepWidth v * 1 → (t : ℕ) → t ≡ numbersRefusal n (tests (stepsAt v s (at + b) 1)) → t ≡ numbersRefusal n (tests (stepsAt v s at 2))
+  two-tests-second z b e t f = f ∙ sym (tests-next v s n at 1 r d _ 2 refl (omega arith) z b e)
+
+-- what is left of the bytes
+module _ (v at k left m : ℕ) (h : k ≤ left) (e : at + stepWidth v * left ≡ m) where
+  first-bytes : stepWidth v * left ≡ stepWidth v * k + stepWidth v * (left - k)
+  first-bytes = ap (λ i. stepWidth v * i) (let q : left ≡ k + (left - k) = omega arith in q) ∙ mul-add (stepWidth v) k (left - k)
+
+  pub tests-room : (n : ℕ) → m ≤ n → at + stepWidth v * k ≤ n
+  tests-room n l = omega (arith, first-bytes)
+
+  pub tests-on : (b : ℕ) → b ≡ stepWidth v * k → at + b + stepWidth v * (left - k) ≡ m
+  tests-on b d = omega (arith, first-bytes)
+
+module _ (v : ℕ) (s : List ℕ) (n at left whole : ℕ) (i : whole ≡ numbersRefusal n (tests (stepsAt v s at left))) where
+  pub tests-end : left ≡ 0 → 0 ≡ whole
   unfolding numbersRefusal tests stepsAt
-  tests-stop h = sym (i ∙ go left p)
-    where
-      go : (m : ℕ) → 0 < m → numbersRefusal n (tests (stepsAt v s at m)) ≡ 12
-      go zero q = absurd (omega arith)
-      go (suc m) q = simp (← named, le-ltb t n h)
+  tests-end z = sym (i ∙ rw z refl)
 
-  pub tests-next : t < n → numbersRefusal n (tests (stepsAt v s base count)) ≡ numbersRefusal n (tests (stepsAt v s (at + (l + 2)) (left - 1)))
-  unfolding numbersRefusal tests stepsAt
-  tests-next h = i ∙ go left p ∙ ap (λ a. numbersRefusal n (tests (stepsAt v s a (left - 1)))) (let e : at + stepWidth v ≡ at + (l + 2) = omega arith in e)
-    where
-      go : (m : ℕ) → 0 < m → numbersRefusal n (tests (stepsAt v s at m)) ≡ numbersRefusal n (tests (stepsAt v s (at + stepWidth v) (m - 1)))
-      go zero q = absurd (omega arith)
-      go (suc m) q = let e : suc m - 1 ≡ m = omega arith in simp (← named, lt-ltb t n h, e)
+  pub tests-last : left < 2 → (left ≡ 0 → ⊥) → (r : ℕ) → r ≡ numbersRefusal n (tests (stepsAt v s at 1)) → r ≡ whole
+  tests-last h f r d = d ∙ sym (i ∙ ap (λ m. numbersRefusal n (tests (stepsAt v s at m))) (let e : left ≡ 1 = omega (arith, pos-of-ne-zero f) in e))
 
 -- ---- the body of a true, not, and or or
 module _ (s : List ℕ) (n kind at size : ℕ) where

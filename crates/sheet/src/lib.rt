@@ -127,23 +127,46 @@ fn number_refusal(s: &[u8], n: u16, at: usize) -> u8
     12
 }
 
-// 12 where one of the tests of `count` steps from `base` on does not name an entry before n, else 0.
+// 12 where the test of the step at `at` does not name an entry before n, else 0.
+fn test_refusal(s: &[u8], v: u8, n: u16, at: usize) -> u8
+    requires { ⌜ at + stepWidth v * 1 ≤ length (now s) ⌝ }
+    ensures { λ r. ⌜ r ≡ numbersRefusal n (tests (stepsAt v (now (s .entry)) at 1)) ⌝ }
+{
+    number_refusal(s, n, at + fields::label_width(v))
+}
+
+// 12 where one of the tests of the two steps from `at` on does not name an entry before n, else 0.
+fn two_refusal(s: &[u8], v: u8, n: u16, at: usize) -> u8
+    requires { ⌜ at + stepWidth v * 2 ≤ length (now s) ⌝ }
+    ensures { λ r. ⌜ r ≡ numbersRefusal n (tests (stepsAt v (now (s .entry)) at 2)) ⌝ }
+{
+    let r = test_refusal(s, v, n, at);
+    if r != 0 {
+        return r;
+    }
+    test_refusal(s, v, n, at + steps_size(v, 1))
+}
+
+// 12 where one of the tests of `count` steps from `base` on does not name an entry before n, else 0. It goes by two steps, so that where the loop lies in a
+// program hardly changes its time.
 fn tests_refusal(s: &[u8], v: u8, n: u16, base: usize, count: usize) -> u8
     requires { ⌜ base + stepWidth v * count ≤ length (now s) ⌝ }
     ensures { λ r. ⌜ r ≡ numbersRefusal n (tests (stepsAt v (now (s .entry)) base count)) ⌝ }
 {
-    let label = fields::label_width(v);
     let mut at = base;
     let mut left = count;
-    while 0 < left {
-        let i = fields::get2(s, at + label);
-        if n <= i {
-            return 12;
+    while 2 <= left {
+        let r = two_refusal(s, v, n, at);
+        if r != 0 {
+            return r;
         }
-        at += label + NUMBER;
-        left -= 1;
+        at += steps_size(v, 2);
+        left -= 2;
     }
-    0
+    if left == 0 {
+        return 0;
+    }
+    test_refusal(s, v, n, at)
 }
 
 // The refusal of the body of a true, not, and or or, 0 where there is none. It has no steps, so neither the version nor the bound
