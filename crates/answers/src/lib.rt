@@ -9,7 +9,7 @@ ghost use Rattle.answers.specs.Row.{zero_from, row_refusal, row_answer, row_outc
 use sheet::{Question, SheetAnswer};
 
 // What Row answers: the set of the right cells that are matched to a left cell and how many they are, or the refusal.
-#[derive(Drop)]
+#[derive(Clone, Copy)]
 pub enum RowAnswer {
     Row { word: u64, count: u32 },
     Refused(u8),
@@ -88,7 +88,7 @@ pub fn row_word(map: &[u16], m: usize, i: usize) -> u64
 
 // What Pair answers: matched; hidden, where a cell of the pair is; parted, by the question of that number, whose entry starts at that byte of the sheet; or a
 // refusal.
-#[derive(Drop)]
+#[derive(Clone, Copy)]
 pub enum PairAnswer {
     Matched,
     Hidden,
@@ -98,7 +98,7 @@ pub enum PairAnswer {
 }
 
 // What a place of a map says of its pair. Pair takes it apart before it reads the question's entry.
-#[derive(Drop)]
+#[derive(Clone, Copy)]
 enum Place {
     Matched,
     Hidden,

@@ -7,19 +7,19 @@ ghost use Rattle.book.specs.BookGraph.{heard, passes, hides_beyond, seen_recordi
 ghost use Rattle.book.specs.BookLinks.{links_before, links_after, first_link, RangeOut, part_from, links_answer, links_part, links_outcome};
 
 // A cell of the left book.
-#[derive(Drop)]
+#[derive(Clone, Copy)]
 pub struct LeftCell(pub u8);
 
 // A cell of the right book.
-#[derive(Drop)]
+#[derive(Clone, Copy)]
 pub struct RightCell(pub u8);
 
 // A recording's number. Recordings are compared by `same` only, which a silent one never passes; to differ is to be the same as oneself and not as the other.
-#[derive(Drop)]
+#[derive(Clone, Copy)]
 pub struct Recording(pub u32);
 
 // A link: from a cell, by a label, to a cell.
-#[derive(Drop)]
+#[derive(Clone, Copy)]
 pub struct BookLink {
     pub from: u8,
     pub label: u16,
@@ -27,21 +27,21 @@ pub struct BookLink {
 }
 
 // Links by number: from `first` on, before `end`.
-#[derive(Drop)]
+#[derive(Clone, Copy)]
 pub struct LinkRange {
     pub first: usize,
     pub end: usize,
 }
 
 // Which cells are hidden, of a left and of a right book: bit i of a word hides cell i.
-#[derive(Drop)]
+#[derive(Clone, Copy)]
 pub struct Hidden {
     pub left: u64,
     pub right: u64,
 }
 
 // What the check of a book answers: its counts, or 01's refusal.
-#[derive(Drop)]
+#[derive(Clone, Copy)]
 pub enum BookAnswer {
     Accepted { cells: u8, links: u16 },
     Refused(u8),
@@ -49,7 +49,7 @@ pub enum BookAnswer {
 
 // What Links answers beside the part: how many links it holds and the byte where it starts (0 where it is empty);
 // the book's refusal; or that the book has no such cell (26).
-#[derive(Drop)]
+#[derive(Clone, Copy)]
 pub enum LinksAnswer {
     Part { count: u16, start: u16 },
     BookRefused(u8),

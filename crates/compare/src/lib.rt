@@ -27,7 +27,7 @@ const SCRATCH_A_PAIR: usize = 16;
 
 // What Compare answers: the length of the sheet and how many pairs are matched; a bound above 4 (20); the refusal of a book; a word that hides a
 // cell which its book has not (31); a map whose length is not the number of pairs (21); too little room (22) or scratch (23).
-#[derive(Drop)]
+#[derive(Clone, Copy)]
 pub enum CompareAnswer {
     Compared { sheet: u32, matched: u32 },
     BoundAbove,

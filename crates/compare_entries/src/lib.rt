@@ -20,7 +20,7 @@ const LEFT: u8 = 0;
 const RIGHT: u8 = 64;
 
 // Where the next entry of a sheet goes, its number, and the version of the sheet.
-#[derive(Drop)]
+#[derive(Clone, Copy)]
 pub struct Pen {
     pub at: usize,
     pub next: u16,
@@ -72,7 +72,7 @@ fn name_pair(
 }
 
 // The steps of a way: their labels, and the questions at the cells that they lead to.
-#[derive(Drop)]
+#[derive(Clone, Copy)]
 pub struct Way {
     pub labels: [u16; 4],
     pub tests: [u16; 4],

@@ -1,7 +1,7 @@
 -- What follows for the entries and the map that a comparison leaves: demands 2 and 3 of its zeros, and that a sheet has room for the entries.
 -- (What is said of its other numbers stands in `Compared` of `Refining`, which is what code has to reach.)
 use Rattle.std.specs.Prelude.{true, List, ◌↔◌, ◌≢◌, ◌≡◌, ℕ, ◌≤◌, length}
-use Rattle.std.proofs.Math.Logic.{Iff·trans}
+use mathlib.Core.Logic.Iff
 use Rattle.std.proofs.Common.{⊎_elim, ◌∙◌, arith, mul-le-mul, mul-le-mul_left}
 use Rattle.theory.specs.Graph.{Node}
 use Rattle.theory.specs.Expression.{NodeExpr}
@@ -38,12 +38,12 @@ module _ {s : Setting} {es : List Entry} {map : List ℕ} (g : Comparable s) (t 
   module _ (a b : ℕ) (o : Node s.left a) (u : Node s.right b) where
     -- A place holds 0 exactly when every node expression within the bound (without "not", one-sided) that is true at the left node is at the right one.
     pub zero_keeps : (placed s.right.size map a b ≡ 0) ↔ ((q : NodeExpr) → Within s.bound q → Spoken s.sides q → holds s.left q a ≡ true → holds s.right q b ≡ true)
-    zero_keeps = Iff·trans (t.zeros a b o.below u.below) (keep_iff s.sides s.bound g.formed.0 g.formed.1 a b o u)
+    zero_keeps = Iff.trans (t.zeros a b o.below u.below) (keep_iff s.sides s.bound g.formed.0 g.formed.1 a b o u)
 
 module _ {s : Setting} {es : List Entry} {map : List ℕ} (g : Comparable s) (both : s.sides ≡ two_sided) (t : Compared s es map) (a b : ℕ) (o : Node s.left a) (u : Node s.right b) where
   -- Demand 3: a place holds 0 exactly when every node expression within the bound, of any size, has one truth at both nodes.
   pub zero_agrees : (placed s.right.size map a b ≡ 0) ↔ ((q : NodeExpr) → Within s.bound q → holds s.left q a ≡ holds s.right q b)
-  zero_agrees = Iff·trans (t.zeros a b o.below u.below) (rw both (agree_iff s.bound g.formed.0 g.formed.1 a b o u))
+  zero_agrees = Iff.trans (t.zeros a b o.below u.below) (rw both (agree_iff s.bound g.formed.0 g.formed.1 a b o u))
 
 -- ---- the sheet
 

@@ -8,7 +8,7 @@ use book::{LeftCell, RightCell};
 use compare_entries::Pen;
 
 // The setting in numbers: how many left and right cells there are, the bound, and whether both sides count or the left one alone.
-#[derive(Drop)]
+#[derive(Clone, Copy)]
 pub struct Sizes {
     pub left: usize,
     pub right: usize,
@@ -17,7 +17,7 @@ pub struct Sizes {
 }
 
 // A pair of cells, of so many.
-#[derive(Drop)]
+#[derive(Clone, Copy)]
 pub struct Case {
     pub sizes: Sizes,
     pub left: LeftCell,

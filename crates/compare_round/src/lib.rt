@@ -57,7 +57,7 @@ fn follows(map: &[u16], m: usize, i: usize, j: usize, twin: usize, both: bool) -
 }
 
 // The cells that a round has to look at: a pair stays, unless its left and its right cell are both among them.
-#[derive(Drop)]
+#[derive(Clone, Copy)]
 pub struct Live {
     pub left: u64,
     pub right: u64,
@@ -78,7 +78,7 @@ fn stays(map: &[u16], i: usize, j: usize, twin: usize, sizes: Sizes, live: Live)
 }
 
 // A row of the map, of so many.
-#[derive(Drop)]
+#[derive(Clone, Copy)]
 pub struct Row {
     pub sizes: Sizes,
     pub number: usize,

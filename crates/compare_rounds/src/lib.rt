@@ -12,7 +12,7 @@ use compare_pair::Sizes;
 use compare_round::Live;
 
 // What a round leaves: where the next entry goes, and the cells that the next round has to look at.
-#[derive(Drop)]
+#[derive(Clone, Copy)]
 pub struct Turn {
     pub pen: Pen,
     pub live: Live,

@@ -77,7 +77,7 @@ fn wide(x: u16) -> usize
 }
 
 // Some of the links: from link `start` up to link `until`.
-#[derive(Drop)]
+#[derive(Clone, Copy)]
 struct Group {
     start: usize,
     until: usize,

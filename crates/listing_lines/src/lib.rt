@@ -9,7 +9,7 @@ ghost use Rattle.listing_lines.specs.Lines.{head_line, row_line, total_line, cel
 use answers::RowAnswer;
 
 // Row lines that were written: the byte after them, and how many matched pairs they tell of.
-#[derive(Drop)]
+#[derive(Clone, Copy)]
 struct Rows {
     end: usize,
     matched: usize,

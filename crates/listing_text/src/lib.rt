@@ -9,7 +9,7 @@ ghost use Rattle.listing_text.specs.Listing.{most_listing, matched_lines, many_c
 use book::Hidden;
 
 // A text: the first `length` bytes.
-#[derive(Drop)]
+#[derive(Clone, Copy)]
 pub struct Text {
     pub bytes: [u8; 4096],
     pub length: usize,

@@ -7,7 +7,7 @@ ghost use Rattle.book.specs.BookLinks.{links_part};
 ghost use Rattle.open_book.specs.Opened.{counts_of, opened, answer_kept, has_kept, recording_kept, run_kept, part_kept, open_answer, open_recording, open_part};
 
 // The counts of a book.
-#[derive(Drop)]
+#[derive(Clone, Copy)]
 pub struct Counts {
     pub cells: u8,
     pub links: u16,
@@ -15,7 +15,7 @@ pub struct Counts {
 
 // What an opened book answers of a cell's recording: the recording, or that the book has no such cell. (A reader, and no operation with
 // refusals of its own numbers.)
-#[derive(Drop)]
+#[derive(Clone, Copy)]
 pub enum RecordingAnswer {
     Recorded(book::Recording),
     NoCell,
@@ -90,7 +90,7 @@ fn part_of(bytes: &[u8], cells: u8, links: u16, cell: usize) -> &[u8]
 }
 
 // An opened book: the lent bytes, and its cells and links as checked. Only `open` makes one.
-#[derive(Drop)]
+#[derive(Clone, Copy)]
 pub struct OpenBook<'a> {
     bytes: &'a [u8],
     cells: u8,

@@ -11,7 +11,7 @@ ghost use Rattle.question_measure.specs.MeasureLaws.{Measured};
 use sheet::{Question, Steps};
 
 // How many references the longest chain from a question has, up to 1,025, and how many bytes its text has, up to 2 to the 32.
-#[derive(Drop)]
+#[derive(Clone, Copy)]
 pub struct Measure {
     pub chain: u16,
     pub length: u64,

@@ -13,7 +13,7 @@ use question_measure::{MOST_CHAIN, MOST_LENGTH};
 use sheet::{Question, SheetAnswer, Steps};
 
 // What both operations answer: the length of the text, the refusal of the sheet, or 25, 28, 29 or 30.
-#[derive(Drop)]
+#[derive(Clone, Copy)]
 pub enum TextAnswer {
     Length(u32),
     SheetRefused(u8),

@@ -12,7 +12,7 @@ use search_pairs::{Pair, Route};
 
 // A reason to part x and y, by the kind of the entry that asks it: 4 one link, which is `first`; 5 and 6 two paths whose recordings are
 // same or differ; 0 where there is no reason.
-#[derive(Drop)]
+#[derive(Clone, Copy)]
 pub struct Reason {
     pub kind: u8,
     pub first: Route,

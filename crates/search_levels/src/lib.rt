@@ -87,7 +87,7 @@ fn gather(
 
 // A table's levels: the levels up to level k have ends[k] classes, for k up to `known`; those up to `exact` have their tips as they are. `none` says that
 // no two paths fail.
-#[derive(Drop)]
+#[derive(Clone, Copy)]
 pub struct Levels {
     pub ends: [u8; 5],
     pub known: u8,

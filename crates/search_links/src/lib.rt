@@ -92,7 +92,7 @@ pub fn least_label(
 }
 
 // The cells that a link with some label leads to from a cell, and the next label of its links.
-#[derive(Drop)]
+#[derive(Clone, Copy)]
 pub struct LabelRow {
     pub set: u64,
     pub next: usize,

@@ -8,7 +8,7 @@ ghost use Rattle.search_pairs.specs.Tails.{no_links, Prepended, Met, Seeking, Se
 
 // What a class of first paths asks of a class of second ones for one comparison: the ends that pass with one of its own, and the other book's
 // ends that pass with an end of a path alike to it.
-#[derive(Drop)]
+#[derive(Clone, Copy)]
 pub struct Wanted {
     pub ends: u64,
     pub answers: u64,
@@ -216,7 +216,7 @@ fn next_link(
 }
 
 // A path by the numbers of its first `len` links.
-#[derive(Drop)]
+#[derive(Clone, Copy)]
 pub struct Route {
     pub len: u8,
     pub links: [u16; 4],
@@ -245,7 +245,7 @@ fn behind(k: u16, s: Route) -> Route
 }
 
 // A path and its tip.
-#[derive(Drop)]
+#[derive(Clone, Copy)]
 pub struct Tail {
     pub cell: u8,
     pub word: u64,
@@ -356,7 +356,7 @@ fn kind_of(ea: &[u64; 128], eb: &[u64; 128], x: u8, w: u64, y: u8, o: u64) -> u8
 }
 
 // Two paths by their links, with the kind of the entry that compares them: same or differ; 0 where there are none.
-#[derive(Drop)]
+#[derive(Clone, Copy)]
 pub struct Pair {
     pub kind: u8,
     pub first: Route,

@@ -92,7 +92,7 @@ fn put_rows(
 
 // How many classes a table has after some classes of another were gone through for one label, up to which, and whether it was too full for
 // the next.
-#[derive(Drop)]
+#[derive(Clone, Copy)]
 pub struct Stretch {
     pub count: usize,
     pub upto: usize,
@@ -155,7 +155,7 @@ fn begin(first: usize, label: usize, at: usize) -> usize
 }
 
 // The tips one link beyond some of a table's classes, as a table of `count` classes, and the place where to go on.
-#[derive(Drop)]
+#[derive(Clone, Copy)]
 pub struct Part {
     pub count: usize,
     pub next: usize,

@@ -97,7 +97,7 @@ fn narrow(lefts: &mut [u64; 64], rights: &[u64; 64], base: usize, n: usize, cell
 }
 
 // How many classes a table has, and whether it was too full for what was put into it.
-#[derive(Drop)]
+#[derive(Clone, Copy)]
 pub struct Grown {
     pub count: usize,
     pub full: bool,

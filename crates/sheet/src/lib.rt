@@ -6,11 +6,11 @@ ghost use Rattle.sheet.specs.Sheet.{version_of, head_size, step_width, number_wi
 ghost use Rattle.sheet.specs.Reading.{Readable, HasNumber, HasWay, HasStep, Reads, steps_of, first_place, second_place};
 
 // The number of an entry.
-#[derive(Drop)]
+#[derive(Clone, Copy)]
 pub struct Question(pub u16);
 
 // What the check of a sheet answers: how many entries it has and its bound, or the refusal.
-#[derive(Drop)]
+#[derive(Clone, Copy)]
 pub enum SheetAnswer {
     Accepted { entries: u16, bound: u8 },
     Refused(u8),
@@ -341,7 +341,7 @@ pub fn check_code(bytes: &[u8]) -> u64
 // ---- the entries of an accepted sheet, each read where it starts
 
 // Where the steps of a way stand in a sheet, and the version in which they are written.
-#[derive(Drop)]
+#[derive(Clone, Copy)]
 pub struct Steps {
     pub start: usize,
     pub count: usize,

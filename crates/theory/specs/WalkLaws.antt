@@ -2,7 +2,8 @@
 use Rattle.std.specs.Prelude.{Bool, true, false, cond, ◌&&◌, ◌||◌, ◌≡◌, refl, ◌↔◌, ℕ, zero, suc, ◌≤◌, ◌<◌, eqb, length}
 use Rattle.std.proofs.Math.Bool.{So}
 use Rattle.std.proofs.Common.{sym, ap₂, suc-le-suc, not-suc-le-zero, le_of_suc-le-suc, arith}
-use Rattle.std.proofs.Math.Logic.{Iff·rfl, inl, inr, ⊎_elim}
+use Rattle.std.proofs.Math.Logic.{inl, inr, ⊎_elim}
+use mathlib.Core.Logic.Iff
 use mathlib.Core.List.Memᴰ
 use mathlib.Core.List.{List, [], ◌∷◌, map, Memᴰ, cons-ne-nil}
 use Rattle.theory.specs.TestLaws.{never, eqb_iff, and_iff, or_iff, sum_iff, cons_iff, append_iff}
@@ -16,7 +17,7 @@ link_iff k x a y = simp (and_iff, eqb_iff) (λ (p, (q, r)). rw (← p, ← q, �
 pub has_iff : (ks : List Link) (x a y : ℕ) → So (has ks x a y) ↔ Memᴰ (link x a y) ks
 unfolding has
 has_iff [] x a y = (never, λ m. absurd (Memᴰ.not-nil m))
-has_iff (k ∷ ks) x a y = simp (or_iff, sum_iff, link_iff, has_iff ks, cons_iff) Iff·rfl
+has_iff (k ∷ ks) x a y = simp (or_iff, sum_iff, link_iff, has_iff ks, cons_iff) Iff.rfl
 
 -- a link of a list that stays below n does
 pub has_inside : (n : ℕ) (ks : List Link) (x a y : ℕ) → Inside n ks → So (has ks x a y) → (x < n) × (y < n)
@@ -62,7 +63,7 @@ out_iff (k ∷ ks) x h = first (eqb k.from x) (out_iff ks x h)
     first : (b : Bool) → Memᴰ h (out ks x) ↔ So (has ks x h.label h.to)
         → Memᴰ h (cond b (hop k.label k.to ∷ out ks x) (out ks x))
         ↔ So ((b && (eqb k.label h.label && eqb k.to h.to)) || has ks x h.label h.to)
-    first true f = simp (or_iff, sum_iff, hop_iff, ← f, cons_iff) Iff·rfl
+    first true f = simp (or_iff, sum_iff, hop_iff, ← f, cons_iff) Iff.rfl
     first false f = f
 
 module _ (h : Hop) (q : Path) where

@@ -20,7 +20,7 @@ const MANY: usize = 12;
 
 // What Truth answers: the words are written; the refusal of the book; that the word hides what is no cell of it (31); the refusal of the
 // sheet; or fewer words than entries (24).
-#[derive(Drop)]
+#[derive(Clone, Copy)]
 pub enum TruthAnswer {
     Done,
     BookRefused(u8),
@@ -32,7 +32,7 @@ pub enum TruthAnswer {
 // What Claim answers: whether the entry is true at the left and false at the right cell; the refusal of a book; that a word hides what is
 // no cell of its book (31); the refusal of the sheet; fewer words than entries (24); no such entry (25); or a cell that is not in its
 // book (26).
-#[derive(Drop)]
+#[derive(Clone, Copy)]
 pub enum ClaimAnswer {
     Yes,
     No,

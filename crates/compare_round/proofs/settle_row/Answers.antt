@@ -1,0 +1,67 @@
+-- `compare_round::settle_row` meets its contract. The invariant: the round stands before the column, and the twin is one.
+use mathlib.Core.Logic.{⊎_elim}
+use mathlib.Core.Path.{refl}
+use native.Mathlib.Omega.{arith}
+use Rattle.compare_pair.specs.Laws.{stands_unknowing, goes_knowing}
+use Rattle.compare_round.proofs.Exits.{row_begun, row_stands, row_done, row_small, width_small, place_small, inside, inside_next, undecided, next_stays, next_parted, row_next, row_places, goes_to}
+use Rattle.compare_round.proofs.settle_row.Goals as goal
+
+pub loop-column-init : goal.loop-column-init
+loop-column-init c = search row_begun
+
+pub overflow_mul-place : goal.overflow_mul-place
+overflow_mul-place c = omega (arith, place_small c.loop-column.invariant c.loop-column-test.true)
+
+pub overflow_add-place : goal.overflow_add-place
+overflow_add-place c = omega (arith, place_small c.loop-column.invariant c.loop-column-test.true)
+
+pub offset_bounds-map-place : goal.offset_bounds-map-place
+offset_bounds-map-place c = omega (arith, place_small c.loop-column.invariant c.loop-column-test.true)
+
+pub bounds-map-place : goal.bounds-map-place
+bounds-map-place c = inside c.loop-column.invariant c.loop-column-test.true
+
+pub stays-requires : goal.stays-requires
+stays-requires c =
+    let inv = c.loop-column.invariant in
+    let h = c.loop-column-test.true in
+    (inside inv h, row_small inv, omega (arith, width_small inv, h))
+
+pub overflow_cast-left : goal.overflow_cast-left
+overflow_cast-left c = omega (arith, row_small c.loop-column.invariant)
+
+pub overflow_cast-right : goal.overflow_cast-right
+overflow_cast-right c = omega (arith, width_small c.loop-column.invariant, c.loop-column-test.true)
+
+pub settle-p-requires : goal.settle-p-requires
+settle-p-requires c =
+    let inv = c.loop-column.invariant in
+    let h = c.loop-column-test.true in
+    (stands_unknowing (row_stands inv), undecided inv h _ refl refl refl c.if-map-place-eq0.true)
+
+pub twin_of-twin-requires : goal.twin_of-twin-requires
+twin_of-twin-requires c =
+    let inv = c.loop-column.invariant in
+    let h = c.loop-column-test.true in
+    let u = inside inv h in
+    ⊎_elim (λ w. rw w.13 (inside_next inv h (goes_knowing w.7.ensures))) (⊎_elim (λ w. rw w.5 u) (λ w. rw w.2 u)) c.if-map-place-eq0.branch
+
+pub overflow_step-column : goal.overflow_step-column
+overflow_step-column c = omega (arith, width_small c.loop-column.invariant, c.loop-column-test.true)
+
+pub loop-column-smaller : goal.loop-column-smaller
+loop-column-smaller c = omega (arith, c.loop-column-test.true)
+
+pub loop-column-preserved : goal.loop-column-preserved
+loop-column-preserved c =
+    let inv = c.loop-column.invariant in
+    let h = c.loop-column-test.true in
+    row_next inv h (⊎_elim (λ w. goes_to (goes_knowing w.7.ensures) w.12 w.13 w.14 w.15)
+    (⊎_elim (λ w. goes_to (next_stays inv h w.2.ensures w.3.left) w.4 w.5 w.6 w.7)
+    (λ w. goes_to (next_parted inv h w.0.left) w.1 w.2 w.3 w.4)) c.if-map-place-eq0.branch) _ c.twin_of-twin.ensures
+
+pub shape_of-map : goal.shape_of-map
+shape_of-map c = search row_places
+
+pub returns : goal.returns
+returns c = search row_done

@@ -1,0 +1,21 @@
+-- `edges::load` meets its contract. The invariant: of the links passed, those that are seen are loaded.
+use mathlib.Core.Logic.{⊎_elim}
+use native.Mathlib.Omega.{arith}
+use Rattle.edges.proofs.Books.{book_long, links_few, from_low, to_low, filled_none, filled_more, filled_skip, filled_all}
+use Rattle.edges.proofs.load.Goals as goal
+
+pub links_of-e-requires : goal.links_of-e-requires
+links_of-e-requires c = search book_long
+
+pub loop-k-init : goal.loop-k-init
+loop-k-init c = (search filled_none, omega arith, omega arith, search links_few)
+
+pub clear-requires : goal.clear-requires
+clear-requires c = (search from_low, search to_low)
+
+pub loop-k-preserved : goal.loop-k-preserved
+loop-k-preserved c =
+    ⊎_elim (λ w. (search filled_more, omega arith, omega arith, omega arith)) (λ w. (search filled_skip, omega arith, omega arith, omega arith)) c.if-clear.branch
+
+pub returns : goal.returns
+returns c = search filled_all

@@ -1,0 +1,12 @@
+-- `open_book::has_cell` meets its contract.
+use Rattle.open_book.proofs.Exits.{has_none, has_short, has_room}
+use Rattle.open_book.proofs.has_cell.Goals as goal
+
+pub returns-then-n-cell : goal.returns-then-n-cell
+returns-then-n-cell c = search has_none
+
+pub returns-then-bytes-lt8 : goal.returns-then-bytes-lt8
+returns-then-bytes-lt8 c = search has_short
+
+pub returns : goal.returns
+returns c = search has_room

@@ -1,0 +1,11 @@
+use mathlib.Core.Path.{◌≡◌}
+use Prim.Native.Nat.{◌-◌, ◌≤◌}
+use lib.ListN.{length}
+use Rattle.sheet.specs.Sheet.{version_of, entries_refusal, head_size}
+use Rattle.sheet.proofs.entries_refusal.Given as goal
+
+abbrev pub invariant-loop-n : goal.invariant-loop-n
+invariant-loop-n l = (entries_refusal (version_of l.s) l.s l.c 0 head_size l.q ≡ entries_refusal (version_of l.s) l.s l.c l.n l.at (l.q - l.n)) × (l.n ≤ l.q) × (l.at ≤ length l.s)
+
+abbrev pub decreases-loop-n : goal.decreases-loop-n
+decreases-loop-n l = l.q - l.n

@@ -1,0 +1,12 @@
+-- `text::put` meets its contract.
+use Rattle.text.proofs.Exits.{put_start, put_next, put_end}
+use Rattle.text.proofs.put.Goals as goal
+
+pub loop-i-init : goal.loop-i-init
+loop-i-init c = search put_start
+
+pub loop-i-preserved : goal.loop-i-preserved
+loop-i-preserved c = search put_next
+
+pub returns : goal.returns
+returns c = search put_end
