@@ -8,7 +8,7 @@ use Prim.Native.Nat.{ℕ, zero, suc, ◌+◌, ◌-◌, ◌*◌, ◌^◌, ◌≤�
 use native.Mathlib.Nat.{mul-le-mul_left, mul-le-mul_right, eq-or-lt_of_le}
 use native.Mathlib.Numerals.{add-one}
 use native.Mathlib.Omega.{arith}
-use borrow.Author.Tests.{lt-ltb, le-ltb, ltb-true, le-leb, lt-leb, leb-true, eq-eqb, ne_eqb, not_false, not-true}
+use borrow.Author.Tests.{lt-ltb, le-ltb, ltb-true, le-leb, lt-leb, leb-true, eq-eqb, ne_eqb, not-false, not-true}
 use lib.Dec.{eqb, ltb}
 use lib.ListN.{length, take, drop}
 use lib.Pow.{pow_pos}
@@ -399,4 +399,4 @@ module _ (a b : ℕ) where
 
     pub heard_same : not h ≡ false → (r : Bool) → r ≡ eqb a b → r ≡ passes same a b
     unfolding passes compared
-    heard_same e r k = rw (← d, not_false h e) k
+    heard_same e r k = rw (← d, not-false h e) k

@@ -2,7 +2,7 @@
 use Rattle.std.specs.Prelude.{false, not, List, ℕ, ◌+◌, ◌*◌, ◌≤◌, eqb, ltb}
 use Rattle.std.proofs.Math.Path.{◌≡◌}
 use Rattle.std.proofs.Common.{sym, ◌∙◌, mul-le-mul, arith}
-use borrow.Author.Tests.{le-ltb, ltb-false, eq-eqb, eqb-true, not_false}
+use borrow.Author.Tests.{le-ltb, ltb-false, eq-eqb, eqb-true, not-false}
 use Rattle.fields.specs.LabelLaws.{label-width}
 use Rattle.outcome.specs.RefusalLaws.{passed_by}
 use Rattle.book.specs.declared.Hidden.{Hidden}
@@ -44,11 +44,11 @@ module _ (l r : List ℕ) (c : ℕ) (hidden : Hidden) (places room scratch sheet
       let (spare, h8) = passed_by (ltb scratch (scratch_needed (pairs_of l r))) (λ e. let z : ◌≡◌ {A = ℕ} 0 1 = cc in omega arith) h7 in (
         record {
           bound = ltb-false _ _ bound;
-          left = eqb-true _ _ (not_false _ left);
-          right = eqb-true _ _ (not_false _ right);
+          left = eqb-true _ _ (not-false _ left);
+          right = eqb-true _ _ (not-false _ right);
           left_word = left_word;
           right_word = right_word;
-          map = eqb-true _ _ (not_false _ map);
+          map = eqb-true _ _ (not-false _ map);
           roomy = ltb-false _ _ roomy;
           spare = ltb-false _ _ spare;
         },

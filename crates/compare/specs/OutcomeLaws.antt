@@ -1,7 +1,7 @@
 -- What Compare answers has room in an outcome's bits.
 use Rattle.std.specs.Prelude.{not, List, ℕ, ◌*◌, eqb, ltb, length}
 use Rattle.std.proofs.Common.{arith, ltb-false, eqb-true}
-use Rattle.std.proofs.lemmas.Bool.{not_false}
+use Rattle.std.proofs.lemmas.Bool.{not-false}
 use Rattle.fields.specs.Fields.{Bytes}
 use Rattle.outcome.specs.Outcome.{Fits, of_call, of_left_book, of_right_book}
 use Rattle.outcome.specs.OutcomeLaws.{accepted_fits, refused_fits}
@@ -35,7 +35,7 @@ compare_fits x l r c hidden before bytes =
     either P (ltb (length before.room) (room_needed (sheet_version l r) pairs)) (λ _. refused_fits of_call 22 (omega arith) (omega arith)) (λ _.
     either P (ltb (length before.scratch) (16 * pairs)) (λ _. refused_fits of_call 23 (omega arith) (omega arith)) (λ _.
     let books : Given l r c =
-    record { bytes = bytes; left = eqb-true _ _ (not_false _ left); right = eqb-true _ _ (not_false _ right); bound = ltb-false 4 c bound } in
+    record { bytes = bytes; left = eqb-true _ _ (not-false _ left); right = eqb-true _ _ (not-false _ right); bound = ltb-false 4 c bound } in
     let most = pairs_most l r books.left books.right in
     accepted_fits (length (compared_sheet x l r c hidden)) (zeros (compared_map x l r c hidden))
     (omega (arith, sheet_fits x hidden books, room_most (sheet_version l r) pairs 4096 most)) (omega (arith, zeros-nonzeros (compared_map x l r c hidden), map_places x hidden books))))))))))

@@ -8,7 +8,7 @@ use Prim.Native.Nat.{ℕ, suc, ◌+◌, ◌*◌, ◌≤◌, ◌<◌}
 use native.Mathlib.Nat.{le_refl, mul-le-mul_right, suc-mul, add-zero, zero-mul}
 use native.Mathlib.Numerals.{add-one}
 use native.Mathlib.Omega.{arith}
-use borrow.Author.Tests.{eqb-true, ltb-true, not_false}
+use borrow.Author.Tests.{eqb-true, ltb-true, not-false}
 use lib.Dec.{ltb}
 use lib.ListN.{length, get_or}
 use Rattle.theory.specs.Bisimulation.{sides_of}
@@ -193,7 +193,7 @@ module _ {by : Basis} {i j twin : ℕ} {x₀ x : Lists} (inv : InRow by i j twin
     -- a pair that stays, as is known or by the twin
     pub next_stays : {b : Bool} → b ≡ (by.idle i j || (by.sizes.both && (ltb twin i && unparted by.sizes.right x.map twin j))) → not b ≡ false
         → Goes by (i * by.sizes.right + j) (suc (i * by.sizes.right + j)) x x
-    next_stays {b} e t = ⊎_elim (idle_goes by i j x inv.row h) followed ((or_iff _ _).0 (sym e ∙ not_false b t))
+    next_stays {b} e t = ⊎_elim (idle_goes by i j x inv.row h) followed ((or_iff _ _).0 (sym e ∙ not-false b t))
       where
         followed : So (by.sizes.both && (ltb twin i && unparted by.sizes.right x.map twin j))
             → Goes by (i * by.sizes.right + j) (suc (i * by.sizes.right + j)) x x

@@ -7,7 +7,7 @@ use mathlib.Core.Logic.{◌≢◌}
 use Prim.Native.Nat.{ℕ, ◌+◌, ◌*◌, ◌≤◌, ◌<◌}
 use native.Mathlib.Nat.{le_refl}
 use native.Mathlib.Omega.{arith}
-use borrow.Author.Tests.{eqb-true, eq-eqb, ne_eqb, lt-ltb, le-ltb, not_false, not-true}
+use borrow.Author.Tests.{eqb-true, eq-eqb, ne_eqb, lt-ltb, le-ltb, not-false, not-true}
 use lib.Dec.{eqb, ltb}
 use lib.ListN.{get_or}
 use Rattle.words.specs.Words.{bit}
@@ -51,10 +51,10 @@ module _ (m : ℕ) (map : List ℕ) (i j twin : ℕ) where
   follows_one false e = refl
 
   pub follows_row : (both b : Bool) → not both ≡ false → twin < i → b ≡ eqb (get_or map (twin * m + j) 0) 0 → b ≡ (both && (ltb twin i && unparted m map twin j))
-  follows_row both b d h e = rw (not_false both d, lt-ltb twin i h) e
+  follows_row both b d h e = rw (not-false both d, lt-ltb twin i h) e
 
   pub follows_none : (both : Bool) → not both ≡ false → i ≤ twin → false ≡ (both && (ltb twin i && unparted m map twin j))
-  follows_none both d h = rw (not_false both d, le-ltb twin i h)
+  follows_none both d h = rw (not-false both d, le-ltb twin i h)
 
 -- ---- whether a pair stays, by the cells to be looked at or else
 module _ (live : Live) (i j : ℕ) (other a : Bool) (d : a ≡ bit live.left i) where
@@ -65,11 +65,11 @@ module _ (live : Live) (i j : ℕ) (other a : Bool) (d : a ≡ bit live.left i) 
   module _ (f : not a ≡ false) (b : Bool) (d' : b ≡ bit live.right j) where
     pub stays_right : not b ≡ true → true ≡ (idle_in live i j || other)
     unfolding idle_in
-    stays_right e = rw (← d, ← d', not_false a f, not-true b e)
+    stays_right e = rw (← d, ← d', not-false a f, not-true b e)
 
     pub stays_else : not b ≡ false → (r : Bool) → r ≡ other → r ≡ (idle_in live i j || other)
     unfolding idle_in
-    stays_else e r k = rw (← d, ← d', not_false a f, not_false b e) k
+    stays_else e r k = rw (← d, ← d', not-false a f, not-false b e) k
 
 -- ---- from column to column
 module _ {m : ℕ} {map : List ℕ} {i j twin : ℕ} (t : Twin m map i j twin) where

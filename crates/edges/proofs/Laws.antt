@@ -6,7 +6,7 @@ use mathlib.Core.List.{List, [], ◌∷◌}
 use Prim.Native.Nat.{ℕ, zero, suc, ◌+◌, ◌-◌, ◌*◌, ◌/◌, ◌%◌, ◌^◌, ◌≤◌, ◌<◌}
 use native.Mathlib.Nat.{add-zero, mod-lt, mod-eq_of_lt, one-mul, zero-mul}
 use native.Mathlib.Omega.{arith}
-use borrow.Author.Tests.{eq-eqb, ne_eqb, eqb-true, not_false}
+use borrow.Author.Tests.{eq-eqb, ne_eqb, eqb-true, not-false}
 use lib.Bits.{bit_and, bit_or, bit_xor, and_mask, or_zero_r, or_add_and, and_le_l, and_le_r}
 use lib.Dec.{eqb, lit<}
 use lib.ListN.{length, get_or, set, length-set, length-replicate}
@@ -220,7 +220,7 @@ module _ (starts fs ls ts : List ℕ) (d : Grouped starts ls) (a : ℕ) (group :
       unfolding gather
       gather-end rows k h m inv all d r e = record {
         is = sym (none_behind (λ ks. gather ks a w later rows) (gather-over rows) k h m) ∙ inv;
-        none = λ f. d.none (eqb-true all 0 (not_false (eqb all 0) (sym e ∙ f)));
+        none = λ f. d.none (eqb-true all 0 (not-false (eqb all 0) (sym e ∙ f)));
       }
 
 -- ---- two sets and rows

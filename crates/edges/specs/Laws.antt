@@ -1,6 +1,6 @@
 -- What sets of nodes become along the links of a graph: the laws of `Edges` for callers, in the theory's terms.
 use Rattle.std.specs.Prelude.{Bool, true, false, cond, ◌&&◌, ◌||◌, ◌≡◌, refl, List, [], ◌∷◌, ◌↔◌, ℕ, zero, suc, ◌+◌, ◌^◌, ◌≤◌, ◌<◌, eqb, ltb, length, get_or, set}
-use Rattle.std.proofs.Math.Bool.{So, and-false, or_false, and_assoc, and_comm, or_assoc}
+use Rattle.std.proofs.Math.Bool.{So, and-false, or-false, and_assoc, and_comm, or_assoc}
 use Rattle.std.proofs.Common.{sym, ap, ap₂, ◌∙◌, ⊎_elim, inl, inr, suc-le-suc, arith, eqb-true, ltb-true, lt-ltb, length-set, pow_pos, get_or-set_same, get_or-set_other}
 use Rattle.std.proofs.lemmas.Bool.{eqb-false}
 use Rattle.std.specs.Int.Bits.{bit_and, bit_or, bit_xor, or_zero_r}
@@ -87,13 +87,13 @@ to-more n k ks x a p l = simp (has-turned (k ∷ ks), has-turned ks) at (from_mo
 -- ---- the image of a set
 added : (b : Bool) (out j y : ℕ) → bit (cond b (bit_or out (2 ^ j)) out) y ≡ bit out y || (b && eqb j y)
 added true out j y = bit_with out j y
-added false out j y = sym (or_false (bit out y))
+added false out j y = sym (or-false (bit out y))
 
 -- what the image adds to `out`
 pub image-bit : (n : ℕ) (ks : List Link) → Inside n ks → (a w out y : ℕ)
     → bit (image ks a w out) y ≡ bit out y || any n (λ x. has ks x a y && bit w x)
 unfolding image Inside has
-image-bit n [] i a w out y = sym (ap (λ (b : Bool). bit out y || b) (any_none n) ∙ or_false (bit out y))
+image-bit n [] i a w out y = sym (ap (λ (b : Bool). bit out y || b) (any_none n) ∙ or-false (bit out y))
 image-bit n (k ∷ ks) (l, m, i) a w out y =
     let rest = any n (λ x. has ks x a y && bit w x) in
     image-bit n ks i a w _ y
@@ -135,8 +135,8 @@ row_added true rows i v x z h = ap (λ (w : ℕ). bit w z) (row-set rows i _ x h
   where
     go : (b : Bool) → eqb i x ≡ b → bit (cond b (bit_or (get_or rows i 0) v) (get_or rows x 0)) z ≡ bit (get_or rows x 0) z || (b && bit v z)
     go true e = rw (← eqb-true i x e) (bit-or (get_or rows i 0) v z)
-    go false e = sym (or_false (bit (get_or rows x 0) z))
-row_added false rows i v x z h = sym (or_false (bit (get_or rows x 0) z))
+    go false e = sym (or-false (bit (get_or rows x 0) z))
+row_added false rows i v x z h = sym (or-false (bit (get_or rows x 0) z))
 
 length_either : (b : Bool) (rows : List ℕ) (i v : ℕ) → length (cond b (set rows i v) rows) ≡ length rows
 length_either true rows i v = length-set rows i v
@@ -146,7 +146,7 @@ length_either false rows i v = refl
 pub gather-bit : (n : ℕ) (ks : List Link) → Inside n ks → (a w : ℕ) (later rows : List ℕ) (x z : ℕ) → n ≤ length rows
     → bit (get_or (gather ks a w later rows) x 0) z ≡ bit (get_or rows x 0) z || any n (λ y. has ks x a y && (bit w y && bit (get_or later y 0) z))
 unfolding gather Inside has
-gather-bit n [] i a w later rows x z h = sym (ap (λ (b : Bool). bit (get_or rows x 0) z || b) (any_none n) ∙ or_false (bit (get_or rows x 0) z))
+gather-bit n [] i a w later rows x z h = sym (ap (λ (b : Bool). bit (get_or rows x 0) z || b) (any_none n) ∙ or-false (bit (get_or rows x 0) z))
 gather-bit n (k ∷ ks) (l, m, i) a w later rows x z h =
     let p : ℕ → Bool = λ y. bit w y && bit (get_or later y 0) z in
     let rest = any n (λ y. has ks x a y && p y) in

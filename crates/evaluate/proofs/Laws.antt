@@ -1,11 +1,11 @@
 -- What each function of the evaluation returns, and what its loops keep: a law for each exit and each turn.
-use mathlib.Core.Bool.{Bool, true, false, cond, not, ◌&&◌, ◌||◌, and-false, or_false, false≢true}
+use mathlib.Core.Bool.{Bool, true, false, cond, not, ◌&&◌, ◌||◌, and-false, or-false, false≢true}
 use mathlib.Core.Path.{◌≡◌, refl, sym, ap, ◌∙◌}
 use mathlib.Core.List.{List, [], ◌∷◌, append-nil}
 use Prim.Native.Nat.{ℕ, zero, suc, ◌+◌, ◌-◌, ◌^◌, ◌≤◌, ◌<◌}
 use native.Mathlib.Nat.{sub-zero}
 use native.Mathlib.Omega.{arith}
-use borrow.Author.Tests.{lt-ltb, le-ltb, eqb-true, ne_eqb, not_false, not-true}
+use borrow.Author.Tests.{lt-ltb, le-ltb, eqb-true, ne_eqb, not-false, not-true}
 use lib.Bits.{bit_and, bit_or, bit_xor, or_lt}
 use lib.Dec.{eqb, ltb}
 use lib.ListN.{length, get_or, set, drop, length-set, drop_of_length-le}
@@ -178,11 +178,11 @@ module _ (every : ℕ) (rows firsts seconds : List ℕ) (out left : ℕ) (d : Fo
         more true next (rw (v, u) (or_lt 64 out (2 ^ x) d.small (pow-lt l.small))) (λ y. rw (v, u) (bit_with out x y)) t
 
     pub found_out : b ≡ false → (next : ℕ) → next ≡ out → Found every rows firsts seconds next rest
-    found_out t next v = more false next (rw v d.small) (λ y. rw v (sym (or_false (bit out y)))) t
+    found_out t next v = more false next (rw v d.small) (λ y. rw v (sym (or-false (bit out y)))) t
 
   pub found_all : left ≡ 0 → out ≡ comparison_word every rows firsts seconds
   unfolding comparison_word
-  found_all z = word_of_is 64 out _ d.small (λ y m. sym (or_false (bit out y)) ∙ rw (z, bit-zero) at (d.each y m))
+  found_all z = word_of_is 64 out _ d.small (λ y m. sym (or-false (bit out y)) ∙ rw (z, bit-zero) at (d.each y m))
 
 -- ---- rows without ends
 module _ (every : ℕ) (rows : List ℕ) where
@@ -206,7 +206,7 @@ pub pair_returned : (every r : ℕ) (rows : List ℕ) (ks : List Link) (ws s : L
     → Reads s p ss w → Reads s p' ss' w' → Ended ks ws (steps_of s w) x firsts → not x ≡ false → Ended ks ws (steps_of s w') y seconds → not y ≡ false
     → r ≡ comparison_word every rows firsts seconds → r ≡ comparison_word every rows (end_rows ks ws ss) (end_rows ks ws ss')
 pair_returned every r rows ks ws s p p' w w' ss ss' x y firsts seconds a b d t e u f =
-    f ∙ rw (d.is (not_false x t), e.is (not_false y u), a.steps, b.steps)
+    f ∙ rw (d.is (not-false x t), e.is (not-false y u), a.steps, b.steps)
 
 -- ---- the word of an entry, by its kind
 ways_by : ℕ → Tables → List ℕ → List Step → List Step → ℕ

@@ -1,6 +1,6 @@
 -- What each turn and each way out of the functions shows of the definitions of `specs/`. The numbers that the code computed are variables
 -- here, with what is known of them, so that `search` finds them in a need's record.
-use mathlib.Core.Bool.{Bool, true, false, So, not, ◌&&◌, ◌||◌, or_false, or_assoc}
+use mathlib.Core.Bool.{Bool, true, false, So, not, ◌&&◌, ◌||◌, or-false, or_assoc}
 use mathlib.Core.Path.{◌≡◌, refl, sym, ap, ap₂, ◌∙◌}
 use mathlib.Core.Logic.{inl, inr, ⊎_elim}
 use mathlib.Core.List.{List}
@@ -76,7 +76,7 @@ module _ (whole : ℕ → Bool) where
 
   joins_end : (out : ℕ) (rest : ℕ → Bool) → Joins out rest whole → ((y : ℕ) → rest y ≡ false) → out < 2 ^ 64 → out ≡ word_of 64 whole
   joins_end out rest j f l =
-      word_of_is 64 out whole l (λ y m. sym (or_false (bit out y)) ∙ ap (λ (b : Bool). bit out y || b) (sym (f y)) ∙ j.each y m)
+      word_of_is 64 out whole l (λ y m. sym (or-false (bit out y)) ∙ ap (λ (b : Bool). bit out y || b) (sym (f y)) ∙ j.each y m)
 
   -- a part that was left is now had
   joins_more : (out more : ℕ) (rest rest' : ℕ → Bool) → Joins out rest whole → ((y : ℕ) → y < 64 → rest y ≡ bit more y || rest' y)

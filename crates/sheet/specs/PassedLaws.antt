@@ -1,7 +1,7 @@
 -- What the check passes: a header, a body and an entry that are not refused, and an accepted sheet's parts.
 use Rattle.std.specs.Prelude.{Bool, false, not, ◌&&◌, List, ◌≡◌, refl, ℕ, ◌+◌, ◌-◌, ◌≤◌, ◌<◌, eqb, ltb, leb, length, get_or}
 use Rattle.std.proofs.Common.{◌∙◌, arith, eq-eqb, ltb-false, leb-false, eqb-true}
-use Rattle.std.proofs.lemmas.Bool.{eqb-false, not_false}
+use Rattle.std.proofs.lemmas.Bool.{eqb-false, not-false}
 use Rattle.outcome.specs.RefusalLaws.{first-zero, passed, passed-not}
 use Rattle.sheet.specs.Entry.{numbers}
 use Rattle.sheet.specs.Sheet.{length_of, version_of, bound_of, count_of, head_size, most_version, most_bound, most_entries, most_kind, step_counts, entry_of, head_refusal, too_large, required, numbers_refusal, body_refusal, kind_refusal, entry_refusal, entries_refusal, sheet_refusal}
@@ -68,7 +68,7 @@ kind_passed n kind h =
     (ltb-false _ _ a.0, λ z. only (eqb kind 0) refl (simp (eq-eqb n 0 z) at b.0))
   where
     only : (b : Bool) → eqb kind 0 ≡ b → not b ≡ false → kind ≡ 0
-    only b e f = eqb-true _ _ (e ∙ not_false b f)
+    only b e f = eqb-true _ _ (e ∙ not-false b f)
 
 pub standing : (v : ℕ) (s : List ℕ) (c n at : ℕ) → entry_refusal v s c n at ≡ 0 → EntryPassed v s c n at
 unfolding entry_refusal

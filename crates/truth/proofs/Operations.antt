@@ -1,10 +1,10 @@
 -- What each way out of Truth and Claim shows of their answers and of the words.
-use mathlib.Core.Bool.{Bool, true, false, cond, not, ◌&&◌, ◌||◌, or_true, false≢true}
+use mathlib.Core.Bool.{Bool, true, false, cond, not, ◌&&◌, ◌||◌, or-true, false≢true}
 use mathlib.Core.Path.{◌≡◌, refl, sym, ap, ◌∙◌}
 use mathlib.Core.List.{List}
 use Prim.Native.Nat.{ℕ, ◌+◌, ◌-◌, ◌^◌, ◌≤◌, ◌<◌, min}
 use native.Mathlib.Omega.{arith}
-use borrow.Author.Tests.{lt-ltb, le-ltb, ltb-true, ltb-false, lt-leb, le-leb, leb-true, leb-false, eq-eqb, ne_eqb, eqb-true, not_false, not-true}
+use borrow.Author.Tests.{lt-ltb, le-ltb, ltb-true, ltb-false, lt-leb, le-leb, leb-true, leb-false, eq-eqb, ne_eqb, eqb-true, not-false, not-true}
 use lib.Dec.{eqb, ltb, leb}
 use lib.ListN.{length, get_or}
 use lib.Pow.{pow_pos}
@@ -276,16 +276,16 @@ module _ (l r : List ℕ) (h : Hidden) (s ws : List ℕ) (k i j : ℕ) where
 
       module _ (z : not x ≡ false) where
         pub left_in : i < cells_of l
-        left_in = ltb-true i _ (sym d ∙ not_false x z)
+        left_in = ltb-true i _ (sym d ∙ not-false x z)
 
         module _ (y : Bool) (e : y ≡ ltb j (cells_of r)) where
           pub claim_right_cell : not y ≡ true → IsClaim l r h s k i j ws claimed.NoCell ws
           unfolding left_by_claim
-          claim_right_cell f = claim_told claimed.NoCell ws (judged_cells ∙ rw (le-leb (cells_of r) j (ltb-false j _ (sym e ∙ not-true y f)), or_true)) refl
+          claim_right_cell f = claim_told claimed.NoCell ws (judged_cells ∙ rw (le-leb (cells_of r) j (ltb-false j _ (sym e ∙ not-true y f)), or-true)) refl
 
           module _ (f : not y ≡ false) where
             pub right_in : j < cells_of r
-            right_in = ltb-true j _ (sym e ∙ not_false y f)
+            right_in = ltb-true j _ (sym e ∙ not-false y f)
 
             module _ (b : Bool) (ws' : List ℕ) (t : Told (parts l r h s k i j) (truth_words r h.right s ws) b ws') where
               answered : claim_answer l r h s k i j (length ws) ≡ cond b claimed.Yes claimed.No
@@ -347,7 +347,7 @@ claim_cut l r h s k i j m =
     rw (min-below (count_of s) k 65535 a e, min-below (cells_of l) i 255 b x, min-below (cells_of r) j 255 d y))))))))))
   where
     none : (n : ℕ) → not (eqb n 0) ≡ false → n ≡ 0
-    none n e = eqb-true n 0 (not_false (eqb n 0) e)
+    none n e = eqb-true n 0 (not-false (eqb n 0) e)
 
     or_fails : (x y : Bool) → (x || y) ≡ false → (x ≡ false) × (y ≡ false)
     or_fails true y e = absurd (false≢true (sym e))

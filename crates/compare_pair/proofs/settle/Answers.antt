@@ -1,6 +1,6 @@
 -- `compare_pair::settle` meets its contract.
 use native.Mathlib.Omega.{arith}
-use borrow.Author.Tests.{not_false, not-true}
+use borrow.Author.Tests.{not-false, not-true}
 use Rattle.compare_pair.proofs.Exits.{bounded, place_small, ahead_ready, ahead_valued, ahead_fits, ahead_goes, left_goes, covered_goes, back_ready, back_valued, back_fits, back_goes, stays_goes}
 use Rattle.compare_pair.proofs.settle.Goals as goal
 
@@ -35,7 +35,7 @@ pub part-requires-then-back-ne0 : goal.part-requires-then-back-ne0
 part-requires-then-back-ne0 c = let p = c.requires in back_fits p.1 p.0 _ c.reason_for-ahead.ensures c.if-ahead-ne0.false _ c.reason_for-back.ensures c.if-back-ne0.true
 
 pub returns-then-back-ne0 : goal.returns-then-back-ne0
-returns-then-back-ne0 c = let p = c.requires in back_goes p.1 p.0 _ c.reason_for-ahead.ensures c.if-ahead-ne0.false _ c.reason_for-back.ensures (not_false _ c.if-not-both.false) _ c.if-back-ne0.true c.part-then-back-ne0.ensures
+returns-then-back-ne0 c = let p = c.requires in back_goes p.1 p.0 _ c.reason_for-ahead.ensures c.if-ahead-ne0.false _ c.reason_for-back.ensures (not-false _ c.if-not-both.false) _ c.if-back-ne0.true c.part-then-back-ne0.ensures
 
 pub returns : goal.returns
 returns c = let p = c.requires in stays_goes p.1 p.0 _ c.reason_for-ahead.ensures c.if-ahead-ne0.false _ c.reason_for-back.ensures c.if-back-ne0.false
