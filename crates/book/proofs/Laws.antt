@@ -17,7 +17,7 @@ use mir.Val.{Fits}
 use Rattle.fields.specs.Fields.{field}
 use Rattle.fields.specs.Label.{label_width}
 use Rattle.outcome.specs.Outcome.{accepted, refused, code, of_left_book, of_call}
-use Rattle.theory.specs.TestLaws.{test_eq}
+use Rattle.theory.proofs.TestLaws.{test_eq}
 use Rattle.theory.specs.Graph.{same, compared, link}
 use Rattle.book.specs.BookGraph.{heard, passes, hides, hides_beyond, seen_recording}
 use Rattle.outcome.specs.Refusals.{first_of}

@@ -4,7 +4,7 @@ use Rattle.std.proofs.Math.Bool.{So}
 use Rattle.std.proofs.Common.{inl, inr, ⊎_elim, sym, ap₂, ◌∙◌, suc-le-suc, mul-le-mul_left, mul-le-mul_right, le_of_suc-le-suc, eq-or-lt_of_le, le_refl, arith, ltb-false, le-ltb, leb-false, eqb-true, eq-eqb, ne_eqb}
 use Rattle.fields.specs.LabelLaws.{label-width}
 use Rattle.outcome.specs.RefusalLaws.{first-zero, passed}
-use Rattle.theory.specs.TestLaws.{and_iff, or_iff, sum_iff, eqb_iff, ltb_iff, list_at}
+use Rattle.theory.proofs.TestLaws.{and_iff, or_iff, sum_iff, eqb_iff, ltb_iff, list_at}
 use Rattle.theory.specs.Search.{list}
 use Rattle.theory.specs.Graph.{Comparison, Link, Inside}
 use Rattle.book.specs.Book.{length_of, version_of, most_version, cells_of, links_of, recording_at, link_width, link_start, link_place, link_at, counts_refusal, head_refusal, below, precedes, rises, link_refusal, links_refusal, book_refusal, book_answer}

@@ -5,7 +5,7 @@ use borrow.Author.Tests.{ne_eqb}
 use Rattle.theory.specs.Graph.{Comparison, same, differ, compared, data_graph}
 use Rattle.theory.specs.Expression.{NodeExpr}
 use Rattle.theory.specs.Meaning.{holds}
-use Rattle.theory.specs.EndsLaws.{holds_alike}
+use Rattle.theory.proofs.EndsLaws.{holds_alike}
 use Rattle.book.specs.Book.{cells_of, recording_at}
 use Rattle.book.specs.BookGraph.{heard, passes, book_links, graph_of}
 use Rattle.book.specs.AcceptedLaws.{book_ends}

@@ -10,7 +10,7 @@ use Rattle.std.proofs.Math.ListN.{length, take}
 use Rattle.fields.specs.Fields.{field}
 use Rattle.fields.specs.Laws.{field-take, field-drop}
 use Rattle.fields.specs.Label.{label_width}
-use Rattle.theory.specs.TestLaws.{list_ext}
+use Rattle.theory.proofs.TestLaws.{list_ext}
 use Rattle.theory.specs.Search.{list}
 use Rattle.theory.specs.Graph.{Link}
 use Rattle.theory.specs.Path.{out}

@@ -1,7 +1,7 @@
 -- Which comparisons two recordings pass: the same from both sides, by what is compared of them, and to differ is to be heard and not the same.
 use Rattle.std.specs.Prelude.{Bool, true, false, not, ◌&&◌, ◌≡◌, refl, ℕ, eqb}
 use Rattle.std.proofs.Common.{ap, ◌∙◌, eqb-true, eq-eqb}
-use Rattle.theory.specs.TestLaws.{and_iff, eqb_turn}
+use Rattle.theory.proofs.TestLaws.{and_iff, eqb_turn}
 use Rattle.theory.specs.Graph.{Comparison, same, differ, compared}
 use Rattle.book.specs.BookGraph.{data_value, heard, passes}
 

@@ -9,9 +9,9 @@ use Rattle.std.proofs.lemmas.Bool.{lt-leb}
 use Rattle.fields.specs.Fields.{Bytes}
 use Rattle.fields.specs.Label.{label_width}
 use Rattle.theory.specs.Search.{list}
-use Rattle.theory.specs.TestLaws.{never, and_iff, list_at, list_ext}
+use Rattle.theory.proofs.TestLaws.{never, and_iff, list_at, list_ext}
 use Rattle.theory.specs.Graph.{Comparison, Link, link, Inside, has, linked, WellFormed}
-use Rattle.theory.specs.WalkLaws.{has_iff}
+use Rattle.theory.proofs.WalkLaws.{has_iff}
 use Rattle.words.specs.Laws.{bit-zero}
 use Rattle.book.specs.Book.{version_of, cells_of, links_of, recording_at, link_at, book_refusal}
 use Rattle.book.specs.BookGraph.{passes, book_recordings, book_links, graph_of, hides, showing, hides_beyond, clear, kept, seen_links, seen_recording, seen_recordings, seen_of}

@@ -11,7 +11,7 @@ use Rattle.fields.specs.Laws.{field_lt}
 use Rattle.outcome.specs.Refusals.{first_of}
 use Rattle.outcome.specs.RefusalLaws.{first_none}
 use Rattle.theory.specs.Search.{list}
-use Rattle.theory.specs.TestLaws.{list_ext}
+use Rattle.theory.proofs.TestLaws.{list_ext}
 use Rattle.book.specs.Book.{version_of, cells_of, links_of, recording_at, link_place, link_in, link_at, head_refusal, precedes, rises, link_refusal, links_refusal, book_refusal}
 use Rattle.book.specs.BookGraph.{passes, book_links, graph_of, hides, showing, clear, kept, seen_recording, seen_of}
 use Rattle.book.specs.Contents.{SameContents}

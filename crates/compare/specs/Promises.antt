@@ -11,7 +11,7 @@ use Rattle.theory.specs.Bound.{Within, depth}
 use Rattle.theory.specs.Bisimulation.{Sides, two_sided, Spoken, Greatest}
 use Rattle.theory.specs.Rounds.{matched}
 use Rattle.theory.specs.Parting.{LeastDepth}
-use Rattle.theory.specs.Theorems.{least_shallow}
+use Rattle.theory.proofs.Theorems.{least_shallow}
 use Rattle.book.specs.declared.Hidden.{Hidden}
 use Rattle.book.specs.Book.{cells_of, book_refusal}
 use Rattle.book.specs.BookGraph.{hides, seen_of, Cell}

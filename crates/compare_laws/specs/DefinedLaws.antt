@@ -11,7 +11,7 @@ use Rattle.theory.specs.Graph.{Graph}
 use Rattle.theory.specs.Bisimulation.{Relation, flip, Sides, one_sided, two_sided}
 use Rattle.theory.specs.Rounds.{zigs, zags}
 use Rattle.theory.specs.Choosing.{Choice, none, some, chosen}
-use Rattle.theory.specs.ChoosingLaws.{chosen_fails, chosen_none}
+use Rattle.theory.proofs.ChoosingLaws.{chosen_fails, chosen_none}
 use Rattle.sheet.specs.Sheet.{most_entries}
 use Rattle.sheet.specs.Encoding.{encode}
 use Rattle.compare_laws.specs.Places.{placed}

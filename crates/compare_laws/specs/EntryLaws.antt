@@ -9,7 +9,7 @@ use Rattle.std.proofs.Math.ListN.{length}
 use Rattle.theory.specs.Graph.{Graph, WellFormed}
 use Rattle.theory.specs.Expression.{NodeExpr, step, test, seq, always, exists, compare}
 use Rattle.theory.specs.Path.{Path, Walk}
-use Rattle.theory.specs.WalkLaws.{linked_inside}
+use Rattle.theory.proofs.WalkLaws.{linked_inside}
 use Rattle.theory.specs.Bisimulation.{Relation}
 use Rattle.theory.specs.Parting.{Reason, by_link, by_paths, Fails, path_expr, asked}
 use Rattle.fields.specs.Label.{label_width}

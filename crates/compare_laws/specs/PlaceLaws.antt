@@ -6,7 +6,7 @@ use Rattle.std.proofs.Math.Path.{refl}
 use Rattle.std.proofs.Math.Decide.{ℕ_discrete}
 use Rattle.std.proofs.lemmas.List.{length-replicate, get_or-replicate}
 use Rattle.theory.specs.Bisimulation.{Relation}
-use Rattle.theory.specs.TestLaws.{le-or-lt, and_iff, length-list, list_at}
+use Rattle.theory.proofs.TestLaws.{le-or-lt, and_iff, length-list, list_at}
 use Rattle.sheet.specs.Sheet.{most_entries, hidden_place}
 use Rattle.compare_laws.specs.Places.{placed, start_at, start_map, unparted, among, zeros, nonzeros}
 

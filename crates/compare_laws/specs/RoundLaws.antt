@@ -14,9 +14,9 @@ use borrow.Author.Tests.{eqb-true, eq-eqb, ne_eqb, lt-leb}
 use Rattle.theory.specs.Graph.{Node}
 use Rattle.theory.specs.Bisimulation.{Relation}
 use Rattle.theory.specs.Rounds.{related, round, rounds, settled}
-use Rattle.theory.specs.TestLaws.{facts, and_iff, le-or-lt}
-use Rattle.theory.specs.GreatestLaws.{related-at, start_iff, after_inside, fixed, still_settled}
-use Rattle.theory.specs.DescribingLaws.{always_describes, parts_least}
+use Rattle.theory.proofs.TestLaws.{facts, and_iff, le-or-lt}
+use Rattle.theory.proofs.GreatestLaws.{related-at, start_iff, after_inside, fixed, still_settled}
+use Rattle.theory.proofs.DescribingLaws.{always_describes, parts_least}
 use Rattle.sheet.specs.Entry.{Entry}
 use Rattle.sheet.specs.Encoding.{body_of, encode_entry, encode}
 use Rattle.compare_laws.specs.Places.{placed, start_map, unparted, unparted_before}

@@ -8,13 +8,13 @@ use Rattle.theory.specs.Expression.{NodeExpr}
 use Rattle.theory.specs.Graph.{Graph, Node}
 use Rattle.theory.specs.Bisimulation.{Relation, flip, Sides, one_sided, two_sided}
 use Rattle.theory.specs.Rounds.{zigs, zags, round, rounds, after}
-use Rattle.theory.specs.TestLaws.{facts, and_iff, test_eq}
-use Rattle.theory.specs.GreatestLaws.{related_iff, descends, after_inside}
+use Rattle.theory.proofs.TestLaws.{facts, and_iff, test_eq}
+use Rattle.theory.proofs.GreatestLaws.{related_iff, descends, after_inside}
 use Rattle.theory.specs.Choosing.{none, some, chosen}
-use Rattle.theory.specs.ChoosingLaws.{chosen_none}
+use Rattle.theory.proofs.ChoosingLaws.{chosen_none}
 use Rattle.theory.specs.Parting.{Reason, Describes}
-use Rattle.theory.specs.DescribingLaws.{stays, parts-drop}
-use Rattle.theory.specs.RowLaws.{across}
+use Rattle.theory.proofs.DescribingLaws.{stays, parts-drop}
+use Rattle.theory.proofs.RowLaws.{across}
 use Rattle.sheet.specs.Entry.{Entry}
 use Rattle.compare_laws.specs.Room.{pair_bytes}
 use Rattle.compare_laws.specs.Places.{placed, unparted, nonzeros}

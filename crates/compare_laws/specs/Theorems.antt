@@ -9,9 +9,9 @@ use Rattle.theory.specs.Meaning.{holds}
 use Rattle.theory.specs.Bound.{Within}
 use Rattle.theory.specs.Bisimulation.{Spoken, Greatest, two_sided}
 use Rattle.theory.specs.Rounds.{related, settled}
-use Rattle.theory.specs.TestLaws.{eqb_iff, test_eq}
-use Rattle.theory.specs.GreatestLaws.{greatest}
-use Rattle.theory.specs.DescribingLaws.{agree_iff, keep_iff, after_ext}
+use Rattle.theory.proofs.TestLaws.{eqb_iff, test_eq}
+use Rattle.theory.proofs.GreatestLaws.{greatest}
+use Rattle.theory.proofs.DescribingLaws.{agree_iff, keep_iff, after_ext}
 use Rattle.sheet.specs.Entry.{Entry}
 use Rattle.sheet.specs.Encoding.{sheet_bytes}
 use Rattle.sheet.specs.WrittenLaws.{Writable, written-length}

@@ -9,11 +9,11 @@ use Rattle.std.proofs.Math.ListN.{length}
 use Rattle.theory.specs.Graph.{Graph, Node, WellFormed}
 use Rattle.theory.specs.Expression.{NodeExpr, neg, conj, always}
 use Rattle.theory.specs.Bisimulation.{Relation, flip, Sides, one_sided, two_sided}
-use Rattle.theory.specs.ClauseLaws.{apart}
-use Rattle.theory.specs.GreatestLaws.{after_inside}
+use Rattle.theory.proofs.ClauseLaws.{apart}
+use Rattle.theory.proofs.GreatestLaws.{after_inside}
 use Rattle.theory.specs.Parting.{Parts, Describes, Reason, Fails}
-use Rattle.theory.specs.PartingLaws.{parting, part_back}
-use Rattle.theory.specs.DescribingLaws.{always_holds, parts_describes, conj_describes}
+use Rattle.theory.proofs.PartingLaws.{parting, part_back}
+use Rattle.theory.proofs.DescribingLaws.{always_holds, parts_describes, conj_describes}
 use Rattle.sheet.specs.Entry.{Entry, negation, conjunction, spell, expressions, expression}
 use Rattle.sheet.specs.ExpressionLaws.{expression_front, expression_last}
 use Rattle.sheet.specs.Sheet.{most_bound}

@@ -12,7 +12,7 @@ use lib.ListN.{length, get_or, replicate}
 use lib.Seq.{length-sets}
 use Rattle.theory.specs.Search.{list}
 use Rattle.theory.specs.Bisimulation.{sides_of}
-use Rattle.theory.specs.TestLaws.{never}
+use Rattle.theory.proofs.TestLaws.{never}
 use Rattle.book.specs.declared.Hidden.{Hidden}
 use Rattle.book.specs.Book.{version_of, cells_of, book_refusal}
 use Rattle.book.specs.BookGraph.{showing}

@@ -12,7 +12,7 @@ use lib.Bits.{bit_or}
 use lib.ListN.{length, get_or, set, drop, replicate, length-set, length-replicate, get_or-replicate}
 use lib.Seq.{drop-cons, drop-length, ext_get_or, get_or-set_same, get_or-set_other}
 use Rattle.theory.specs.Search.{list}
-use Rattle.theory.specs.TestLaws.{list_at, length-list}
+use Rattle.theory.proofs.TestLaws.{list_at, length-list}
 use Rattle.words.specs.Words.{bit, word_of}
 use Rattle.words.specs.Laws.{word-in, word_out}
 use Rattle.book.specs.BookGraph.{showing}

@@ -9,9 +9,9 @@ use Prim.Native.Nat.{ℕ, zero, suc, ◌≤◌, ◌<◌}
 use Rattle.theory.specs.Bisimulation.{Relation}
 use Rattle.theory.specs.Graph.{Graph}
 use Rattle.theory.specs.Path.{Path, Walk, end}
-use Rattle.theory.specs.TestLaws.{or_iff}
-use Rattle.theory.specs.WalkLaws.{linked_inside, end_inside}
-use Rattle.theory.specs.GreatestLaws.{Near}
+use Rattle.theory.proofs.TestLaws.{or_iff}
+use Rattle.theory.proofs.WalkLaws.{linked_inside, end_inside}
+use Rattle.theory.proofs.GreatestLaws.{Near}
 use Rattle.words.specs.Words.{bit}
 use Rattle.words.specs.Laws.{bit-or, bit-word_of-lt}
 use Rattle.search_links.specs.Hops.{View}

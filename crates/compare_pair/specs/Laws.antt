@@ -1,7 +1,7 @@
 -- A round, taken on step by step.
 use Rattle.std.specs.Prelude.{List, ℕ}
 use Rattle.theory.specs.Bisimulation.{Relation}
-use Rattle.theory.specs.TestLaws.{never}
+use Rattle.theory.proofs.TestLaws.{never}
 use Rattle.compare_laws.specs.Setting.{Setting}
 use Rattle.compare_entries.specs.Parting.{Lists}
 use Rattle.compare_entries.specs.GrowingLaws.{onward_none, onward-more}

@@ -12,7 +12,7 @@ use borrow.Author.Tests.{eqb-true, ltb-true, not-false}
 use lib.Dec.{ltb}
 use lib.ListN.{length, get_or}
 use Rattle.theory.specs.Bisimulation.{sides_of}
-use Rattle.theory.specs.TestLaws.{and_iff, or_iff}
+use Rattle.theory.proofs.TestLaws.{and_iff, or_iff}
 use Rattle.compare_laws.specs.Places.{placed, unparted}
 use Rattle.compare_laws.specs.PlaceLaws.{place_below}
 use Rattle.compare_laws.specs.Setting.{Setting}

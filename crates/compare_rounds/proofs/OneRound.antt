@@ -7,7 +7,7 @@ use native.Mathlib.Nat.{le_refl}
 use native.Mathlib.Omega.{arith}
 use lib.ListN.{length}
 use Rattle.theory.specs.Bisimulation.{Relation, flip}
-use Rattle.theory.specs.GreatestLaws.{Near, near_kept, after_inside}
+use Rattle.theory.proofs.GreatestLaws.{Near, near_kept, after_inside}
 use Rattle.words.specs.Words.{bit}
 use Rattle.search_links.specs.Hops.{Opened}
 use Rattle.compare_laws.specs.Setting.{Setting, pairs, relation_after}

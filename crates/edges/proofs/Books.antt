@@ -11,7 +11,7 @@ use lib.Dec.{eqb}
 use lib.ListN.{length, get_or, set, length-set}
 use lib.Seq.{get_or-set_same, get_or-set_other}
 use Rattle.theory.specs.Search.{list}
-use Rattle.theory.specs.TestLaws.{list_ext}
+use Rattle.theory.proofs.TestLaws.{list_ext}
 use Rattle.theory.specs.Graph.{same, Link, Inside}
 use Rattle.words.specs.Words.{word_of, IsMinus}
 use Rattle.words.specs.Laws.{bit-zero, word-in, word_out, word_of_ext, word_of_is}

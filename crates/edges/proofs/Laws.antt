@@ -14,7 +14,7 @@ use lib.Pow.{pow-lt}
 use mir.Syntax.{w64}
 use mir.Val.{Fits}
 use Rattle.theory.specs.Search.{list}
-use Rattle.theory.specs.TestLaws.{list_ext}
+use Rattle.theory.proofs.TestLaws.{list_ext}
 use Rattle.theory.specs.Graph.{Link}
 use Rattle.words.specs.Words.{bit}
 use Rattle.edges.specs.Edges.{edge_at, edges, Held, image, gather, Gathered, empty_rows, meets, any_passes}

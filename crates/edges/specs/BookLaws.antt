@@ -5,7 +5,7 @@ use Rattle.std.proofs.Math.Path.{refl}
 use Rattle.std.proofs.Common.{sym, ap, ◌∙◌, arith, ne_eqb, ltb-true, pow_pos}
 use Rattle.std.proofs.lemmas.Bool.{not-true}
 use Rattle.theory.specs.Graph.{Comparison, same, differ}
-use Rattle.theory.specs.TestLaws.{never, test_fails, list_ext}
+use Rattle.theory.proofs.TestLaws.{never, test_fails, list_ext}
 use Rattle.words.specs.Words.{bit, word_of}
 use Rattle.words.specs.Laws.{bit-zero, bit-word_of-lt, word_of_ext, word_of_is, word_of-among}
 use Rattle.book.specs.Book.{cells_of, book_refusal}

@@ -9,7 +9,7 @@ use Rattle.std.proofs.Math.Dec.{leb-suc-zero}
 use Rattle.std.proofs.lemmas.List.{get_or-replicate, length-replicate}
 use Rattle.std.proofs.Math.Pow.{pow-lt}
 use Rattle.theory.specs.Search.{any, list}
-use Rattle.theory.specs.TestLaws.{any_iff, any_ext, and_iff, or_iff, test_eq, test_fails, list_at, list_ext, facts}
+use Rattle.theory.proofs.TestLaws.{any_iff, any_ext, and_iff, or_iff, test_eq, test_fails, list_at, list_ext, facts}
 use Rattle.theory.specs.Graph.{Graph, Link, Inside, has, linked}
 use Rattle.outcome.specs.RefusalLaws.{either}
 use Rattle.words.specs.Words.{bit, word_of}

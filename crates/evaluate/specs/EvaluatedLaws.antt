@@ -10,7 +10,7 @@ use Rattle.std.specs.Int.Bits.{bit_and, bit_or, bit_xor}
 use Rattle.std.proofs.lemmas.Nat.{xor_lt}
 use Rattle.std.proofs.Math.Pow.{pow-lt}
 use Rattle.theory.specs.Search.{any, list}
-use Rattle.theory.specs.TestLaws.{any_iff, any_ext, and_iff, test_eq, list_at}
+use Rattle.theory.proofs.TestLaws.{any_iff, any_ext, and_iff, test_eq, list_at}
 use Rattle.theory.specs.Graph.{Comparison, Graph, linked, WellFormed}
 use Rattle.theory.specs.Expression.{NodeExpr, neg, conj, disj, exists, compare, always}
 use Rattle.theory.specs.Meaning.{reach, holds}

@@ -4,7 +4,7 @@ use Rattle.theory.specs.Search.{any}
 use Rattle.theory.specs.Graph.{Graph, linked}
 use Rattle.theory.specs.Expression.{NodeExpr, exists}
 use Rattle.theory.specs.Meaning.{reach, holds}
-use Rattle.theory.specs.TestLaws.{any_iff, and_iff, eqb_iff, test_eq}
+use Rattle.theory.proofs.TestLaws.{any_iff, and_iff, eqb_iff, test_eq}
 use Rattle.sheet.specs.Entry.{Step, named, spell_way}
 
 module _ (g : Graph) (qs : List NodeExpr) where

@@ -9,7 +9,7 @@ use borrow.Author.Tests.{lt-ltb, le-ltb, lt-leb, ltb-true, leb-true, eq-eqb, ne_
 use lib.Dec.{leb}
 use lib.ListN.{length, take, drop}
 use Rattle.fields.specs.Label.{label_width}
-use Rattle.theory.specs.TestLaws.{and_iff}
+use Rattle.theory.proofs.TestLaws.{and_iff}
 use Rattle.book.specs.Book.{recording_place, recording_at, version_of, link_width, link_start, link_in, book_answer}
 use Rattle.book.specs.BookLinks.{links_before, links_after}
 use Rattle.book.specs.OutgoingLaws.{before-rises}

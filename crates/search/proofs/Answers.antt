@@ -11,15 +11,15 @@ use lib.ListN.{length, get_or}
 use lib.Pow.{pow-lt}
 use lib.Seq.{get_or-take, length-take-le}
 use Rattle.theory.specs.Search.{any}
-use Rattle.theory.specs.TestLaws.{any_iff, and_iff, facts}
+use Rattle.theory.proofs.TestLaws.{any_iff, and_iff, facts}
 use Rattle.theory.specs.Graph.{Comparison, same, differ, comparisons, Graph, linked}
 use Rattle.theory.specs.Path.{Hop, Path, Walk, end, out}
-use Rattle.theory.specs.WalkLaws.{linked_inside, out_iff}
+use Rattle.theory.proofs.WalkLaws.{linked_inside, out_iff}
 use Rattle.theory.specs.Bisimulation.{Relation}
 use Rattle.theory.specs.Rounds.{follow, met}
 use Rattle.theory.specs.Parting.{by_link, by_paths, LinkFails}
 use Rattle.theory.specs.Choosing.{Choice, none, some, or_else, when, first_in, link_choice, pair_choice, lengths_choice, total_choice, paths_choice, chosen}
-use Rattle.theory.specs.ChoosingLaws.{first_none, list-first, list_none}
+use Rattle.theory.proofs.ChoosingLaws.{first_none, list-first, list_none}
 use Rattle.words.specs.Words.{bit}
 use Rattle.words.specs.Laws.{bit-zero}
 use Rattle.search_links.specs.Hops.{View, start_of, to_of, hop_at, Opened}

@@ -8,10 +8,10 @@ use native.Mathlib.Omega.{arith}
 use lib.ListN.{length}
 use Rattle.theory.specs.Graph.{Graph}
 use Rattle.theory.specs.Path.{Hop, Path}
-use Rattle.theory.specs.WalkLaws.{linked_inside}
+use Rattle.theory.proofs.WalkLaws.{linked_inside}
 use Rattle.theory.specs.Parting.{Reason as Cause}
 use Rattle.theory.specs.Choosing.{Choice, none, some, or_else, first_in, paths_of}
-use Rattle.theory.specs.ChoosingLaws.{first_none, first-onward, paths_of_iff}
+use Rattle.theory.proofs.ChoosingLaws.{first_none, first-onward, paths_of_iff}
 use Rattle.search_links.specs.Hops.{View, start_of, to_of, hop_at, hops_from}
 use Rattle.search_steps.specs.Paths.{Leaves, Trail, path_of}
 use Rattle.search_pairs.specs.Pairs.{Before}

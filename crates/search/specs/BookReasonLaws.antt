@@ -3,7 +3,7 @@ use Rattle.std.specs.Prelude.{Bool, cond, ◌≡◌, refl, ◌↔◌, List, ℕ,
 use Rattle.std.proofs.Math.Bool.{true, false, So}
 use Rattle.std.proofs.Common.{sym, ap, ◌∙◌, arith}
 use Rattle.std.proofs.Math.Dec.{ltb}
-use Rattle.theory.specs.TestLaws.{never, and_iff, ltb_iff, list_at}
+use Rattle.theory.proofs.TestLaws.{never, and_iff, ltb_iff, list_at}
 use Rattle.theory.specs.Graph.{Comparison, same, differ}
 use Rattle.words.specs.Words.{bit, word_of}
 use Rattle.words.specs.Laws.{bit-zero, bit-word_of, bit-word_of-lt}

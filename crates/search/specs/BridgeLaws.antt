@@ -11,13 +11,13 @@ use Rattle.std.specs.Int.Bits.{bit_and}
 use Rattle.std.proofs.lemmas.Nat.{and_le_l}
 use Rattle.std.proofs.Math.Pow.{pow-lt}
 use Rattle.theory.specs.Search.{any}
-use Rattle.theory.specs.TestLaws.{any_ext, any_iff, and_iff, test_eq}
+use Rattle.theory.proofs.TestLaws.{any_ext, any_iff, and_iff, test_eq}
 use Rattle.theory.specs.Graph.{Comparison, Graph, linked}
 use Rattle.theory.specs.Path.{Hop, hop, Path, Walk, end}
-use Rattle.theory.specs.WalkLaws.{linked_inside, end_inside}
+use Rattle.theory.proofs.WalkLaws.{linked_inside, end_inside}
 use Rattle.theory.specs.Bisimulation.{Relation}
 use Rattle.theory.specs.Rounds.{follow, met}
-use Rattle.theory.specs.FollowLaws.{follow-below}
+use Rattle.theory.proofs.FollowLaws.{follow-below}
 use Rattle.words.specs.Words.{bit}
 use Rattle.words.specs.Laws.{bit-and, bit-pow}
 use Rattle.edges.specs.Edges.{meets}

@@ -8,7 +8,7 @@ use Rattle.theory.specs.Bisimulation.{Relation}
 use Rattle.theory.specs.Rounds.{zigs}
 use Rattle.theory.specs.Parting.{by_link, by_paths, Fails}
 use Rattle.theory.specs.Choosing.{none, some, chosen}
-use Rattle.theory.specs.ChoosingLaws.{chosen_fails, chosen_none}
+use Rattle.theory.proofs.ChoosingLaws.{chosen_fails, chosen_none}
 use Rattle.words.specs.Words.{bit}
 use Rattle.search_links.specs.Hops.{View, hop_at}
 use Rattle.search_steps.specs.Paths.{path_of}

@@ -10,7 +10,7 @@ use borrow.Author.Tests.{eqb-true, eq-eqb, not-true}
 use lib.Bits.{bit_and}
 use lib.ListN.{length, get_or, set, length-set, replicate, get_or-replicate}
 use lib.Seq.{get_or-set_same, get_or-set_other}
-use Rattle.theory.specs.TestLaws.{never, and_iff}
+use Rattle.theory.proofs.TestLaws.{never, and_iff}
 use Rattle.words.specs.Words.{bit, Inside}
 use Rattle.words.specs.Laws.{bit-zero, bit-pow, bit-and}
 use Rattle.search_links.specs.Hops.{View, start_of, label_of, to_of}

@@ -8,7 +8,7 @@ use Prim.Native.Nat.{ℕ, ◌+◌, ◌^◌, ◌≤◌, ◌<◌}
 use native.Mathlib.Omega.{arith}
 use borrow.Author.Tests.{not-true}
 use lib.ListN.{length}
-use Rattle.theory.specs.TestLaws.{le-or-lt}
+use Rattle.theory.proofs.TestLaws.{le-or-lt}
 use Rattle.search_links.specs.Hops.{View, to_of, Opened}
 use Rattle.search_links.specs.Sets.{Valued, StandsIn, seen_as}
 use Rattle.search_tables.specs.Tips.{Has}

@@ -8,7 +8,7 @@ use native.Mathlib.Nat.{eq-or-lt_of_le, pos_of_ne-zero}
 use native.Mathlib.Omega.{arith}
 use lib.ListN.{length, set, length-set, length-append}
 use lib.Seq.{get_or-set_same, get_or-set_other}
-use Rattle.theory.specs.TestLaws.{never, le-or-lt}
+use Rattle.theory.proofs.TestLaws.{never, le-or-lt}
 use Rattle.words.specs.Words.{Inside}
 use Rattle.search_links.specs.Hops.{View}
 use Rattle.search_links.specs.Sets.{seen_as}

@@ -9,7 +9,7 @@ use native.Mathlib.Omega.{arith}
 use borrow.Author.Tests.{eqb-true}
 use lib.Dec.{eqb}
 use lib.ListN.{length, get_or}
-use Rattle.theory.specs.TestLaws.{never, le-or-lt}
+use Rattle.theory.proofs.TestLaws.{never, le-or-lt}
 use Rattle.words.specs.Words.{Inside}
 use Rattle.search_links.specs.Hops.{View, label_of, to_of}
 use Rattle.search_links.specs.Sets.{row_at, seen_as}

@@ -5,7 +5,7 @@ use Rattle.std.proofs.Common.{◌∙◌, length-set}
 use mathlib.Core.List.{List, [], ◌∷◌}
 use Rattle.std.proofs.Math.Logic.{inl}
 use native.Mathlib.Omega.{arith}
-use Rattle.theory.specs.TestLaws.{never}
+use Rattle.theory.proofs.TestLaws.{never}
 use Rattle.search_links.specs.Hops.{View}
 use Rattle.search_links.specs.Sets.{seen_as}
 use Rattle.search_tables.specs.Laws.{covered_by_has, one_has, one_only}

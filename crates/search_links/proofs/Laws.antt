@@ -14,7 +14,7 @@ use lib.Dec.{eqb}
 use lib.ListN.{length, get_or, set, length-set}
 use lib.Seq.{get_or-set_same, get_or-set_other}
 use Rattle.theory.specs.Search.{any}
-use Rattle.theory.specs.TestLaws.{never, le-or-lt, and_iff, or_iff, facts, test_eq}
+use Rattle.theory.proofs.TestLaws.{never, le-or-lt, and_iff, or_iff, facts, test_eq}
 use Rattle.words.specs.Words.{bit, word_of, IsLowest, IsWithout, IsMinus}
 use Rattle.words.specs.Laws.{bit-or, bit-zero, bit-pow, bit_without, word_of_is, first_stop, first-end, first_next}
 use Rattle.search_links.specs.Hops.{View, start_of, label_of, to_of, hops_from, Opened, Ordered, Smaller, every_label, LeastLabel, lead, Starts}

@@ -8,7 +8,7 @@ use native.Mathlib.Omega.{arith}
 use borrow.Author.Tests.{eq-eqb, ne_eqb, leb-true, leb-false}
 use Rattle.std.proofs.Math.Dec.{leb}
 use Rattle.theory.specs.Search.{list}
-use Rattle.theory.specs.TestLaws.{le-or-lt}
+use Rattle.theory.proofs.TestLaws.{le-or-lt}
 use Rattle.theory.specs.Graph.{Link}
 use Rattle.theory.specs.Path.{Hop, hop, out}
 use Rattle.words.specs.Laws.{first_there, first_least, first-le}

@@ -5,10 +5,10 @@ use Rattle.std.proofs.Common.{sym, ◌∙◌, inl, inr, arith, ltb-true}
 use mathlib.Core.List.Memᴰ
 use mathlib.Core.List.{List, [], ◌∷◌, Memᴰ}
 use Rattle.theory.specs.Search.{any}
-use Rattle.theory.specs.TestLaws.{never, and_iff, or_iff, eqb_iff, sum_iff, cons_iff, test_eq}
+use Rattle.theory.proofs.TestLaws.{never, and_iff, or_iff, eqb_iff, sum_iff, cons_iff, test_eq}
 use Rattle.theory.specs.Graph.{Graph, linked}
 use Rattle.theory.specs.Path.{Hop, hop, out}
-use Rattle.theory.specs.WalkLaws.{out_iff}
+use Rattle.theory.proofs.WalkLaws.{out_iff}
 use Rattle.words.specs.Words.{bit}
 use Rattle.words.specs.Laws.{bit-word_of, bit-word_of-lt, word_of-lt}
 use Rattle.search_links.specs.Hops.{View, to_of, hops_from, hops_of, Opened}

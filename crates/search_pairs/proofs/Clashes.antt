@@ -12,7 +12,7 @@ use borrow.Author.Tests.{eqb-true, eq-eqb, ne_eqb}
 use lib.Bits.{bit_and, and_le_l}
 use lib.Dec.{eqb}
 use lib.ListN.{length, get_or, take}
-use Rattle.theory.specs.TestLaws.{never, and_iff, or_iff, not_iff, any_iff}
+use Rattle.theory.proofs.TestLaws.{never, and_iff, or_iff, not_iff, any_iff}
 use Rattle.words.specs.Words.{bit}
 use Rattle.words.specs.Laws.{bit-and, bit-zero}
 use Rattle.search_links.specs.Sets.{spread, row_at}

@@ -8,7 +8,7 @@ use native.Mathlib.Nat.{pos_of_ne-zero, eq-or-lt_of_le}
 use native.Mathlib.Omega.{arith}
 use lib.ListN.{length, get_or, set}
 use lib.Seq.{length-take-le}
-use Rattle.theory.specs.TestLaws.{never, le-or-lt}
+use Rattle.theory.proofs.TestLaws.{never, le-or-lt}
 use Rattle.words.specs.Words.{Inside}
 use Rattle.search_links.specs.Hops.{View, start_of, label_of, to_of, Opened}
 use Rattle.search_steps.specs.declared.Part.{Part}

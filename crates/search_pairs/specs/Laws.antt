@@ -7,7 +7,7 @@ use borrow.Author.Tests.{eqb-true, eq-eqb}
 use Rattle.std.specs.Int.Bits.{bit_and}
 use Rattle.std.proofs.lemmas.Nat.{and_le_r}
 use Rattle.theory.specs.Search.{any}
-use Rattle.theory.specs.TestLaws.{never, and_iff, any_iff, test_fails}
+use Rattle.theory.proofs.TestLaws.{never, and_iff, any_iff, test_fails}
 use Rattle.words.specs.Words.{bit, Inside}
 use Rattle.words.specs.Laws.{bit-and, bit-zero, zero_iff}
 use Rattle.search_links.specs.Sets.{spread, row_at}

@@ -6,7 +6,7 @@ use Rattle.std.proofs.Common.{sym, ap, ◌∙◌, ⊎_elim, lt_of_le_of_lt, arit
 use borrow.Author.Tests.{eqb-true, eq-eqb}
 use Rattle.std.specs.Int.Bits.{bit_and}
 use Rattle.std.proofs.lemmas.Nat.{and_le_r}
-use Rattle.theory.specs.TestLaws.{never, any_iff, and_iff, test_eq}
+use Rattle.theory.proofs.TestLaws.{never, any_iff, and_iff, test_eq}
 use Rattle.words.specs.Words.{bit}
 use Rattle.words.specs.Laws.{bit-and, bit-zero, zero_iff, word_of_ext}
 use Rattle.search_links.specs.Sets.{spread, row_at, Valued, sharing, StandsIn, seen_as}

@@ -11,7 +11,7 @@ use borrow.Author.Tests.{eqb-true}
 use lib.Bits.{bit_and, bit_or}
 use lib.ListN.{length, get_or, set, length-set}
 use lib.Seq.{get_or-set_same, get_or-set_other}
-use Rattle.theory.specs.TestLaws.{never, le-or-lt, and_iff, or_iff, not_iff}
+use Rattle.theory.proofs.TestLaws.{never, le-or-lt, and_iff, or_iff, not_iff}
 use Rattle.words.specs.Words.{bit, IsLowest, IsWithout}
 use Rattle.words.specs.Laws.{bit-zero, bit-or, bit_without}
 use Rattle.search_links.specs.Hops.{View, label_of, to_of, hops_of, Opened, every_label, LeastLabel}

@@ -8,7 +8,7 @@ use mathlib.Core.List.Memᴰ
 use mathlib.Core.List.{List, [], ◌∷◌, ◌++◌, Memᴰ}
 use Prim.Native.Nat.{ℕ, zero, suc, ◌+◌, ◌≤◌, ◌<◌}
 use native.Mathlib.Omega.{arith}
-use Rattle.theory.specs.TestLaws.{never, any_iff, and_iff, test_eq}
+use Rattle.theory.proofs.TestLaws.{never, any_iff, and_iff, test_eq}
 use Rattle.theory.specs.Path.{Hop}
 use Rattle.words.specs.Words.{bit, Inside}
 use Rattle.words.specs.Laws.{bit-and, word_of_ext, bit-word_of}

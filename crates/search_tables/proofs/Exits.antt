@@ -12,7 +12,7 @@ use lib.Bits.{bit_and, bit_or}
 use lib.Dec.{eqb}
 use lib.ListN.{get_or, set, length-set}
 use lib.Seq.{get_or-set_same, get_or-set_other}
-use Rattle.theory.specs.TestLaws.{never, le-or-lt, any_iff, and_iff, or_iff, not_iff}
+use Rattle.theory.proofs.TestLaws.{never, le-or-lt, any_iff, and_iff, or_iff, not_iff}
 use Rattle.words.specs.Words.{bit, Inside, IsLowest, IsWithout, IsMinus}
 use Rattle.words.specs.Laws.{bit-zero, bit-or, bit_with, bit_without, bit-word_of, first_least}
 use Rattle.search_tables.specs.declared.Grown.{Grown}

@@ -14,7 +14,7 @@ use Rattle.fields.specs.Label.{label_width}
 use Rattle.fields.specs.LabelLaws.{label-width}
 use Rattle.fields.specs.Laws.{field-append_right, field-bytes_of-append, length-bytes_of}
 use Rattle.theory.specs.Graph.{Comparison, same, differ}
-use Rattle.theory.specs.TestLaws.{test_eq}
+use Rattle.theory.proofs.TestLaws.{test_eq}
 use Rattle.sheet.specs.Entry.{Step, Entry, entry_with, kind_of, truth, negation, conjunction, disjunction, way, comparison, expression, tests, numbers, Short, Below, WellFormedEntry, WellFormedFrom, WellFormed, most_steps}
 use Rattle.sheet.specs.ExpressionLaws.{below-append, well_formed_snoc}
 use Rattle.outcome.specs.Refusals.{first_of}

@@ -1,6 +1,6 @@
 use mathlib.Core.Path.{sym}
 use native.Mathlib.Omega.{arith}
-use Rattle.theory.specs.TestLaws.{never}
+use Rattle.theory.proofs.TestLaws.{never}
 use Rattle.search_levels.proofs.widens.Goals as goal
 
 pub returns-then-small : goal.returns-then-small

@@ -9,8 +9,8 @@ use Rattle.theory.specs.Expression.{PathExpr, stay, step, test, seq, union}
 use Rattle.theory.specs.Bound.{len}
 use Rattle.theory.specs.Path.{hop, Path, Walk, end}
 use Rattle.theory.specs.Meaning.{reach, holds}
-use Rattle.theory.specs.TestLaws.{facts}
-use Rattle.theory.specs.FollowLaws.{end-append, walk_append}
+use Rattle.theory.proofs.TestLaws.{facts}
+use Rattle.theory.proofs.FollowLaws.{end-append, walk_append}
 
 -- The path p from x has the labels of w in order, and passes its tests.
 unfoldable pub Fits : Graph → PathExpr → ℕ → Path → Type 0

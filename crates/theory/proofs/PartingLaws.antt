@@ -20,9 +20,9 @@ use Rattle.theory.specs.Path.{Hop, Path, Walk, end}
 use Rattle.theory.specs.Bisimulation.{Relation, Sides, one_sided, two_sided}
 use Rattle.theory.specs.Rounds.{follow, met}
 use Rattle.theory.specs.Parting.{Tells, Parts, Describes, Described, path_expr, Reason, by_link, by_paths, Fails, asked}
-use Rattle.theory.specs.TestLaws.{facts, test_fails}
-use Rattle.theory.specs.WalkLaws.{linked_inside, linked_node}
-use Rattle.theory.specs.ClauseLaws.{apart}
+use Rattle.theory.proofs.TestLaws.{facts, test_fails}
+use Rattle.theory.proofs.WalkLaws.{linked_inside, linked_node}
+use Rattle.theory.proofs.ClauseLaws.{apart}
 
 module _ {s : Sides} {l r : Graph} {c d : ℕ} {z : Relation} {chi : ℕ → NodeExpr} (w : WellFormed l) (v : WellFormed r) (f : Described s l r c d z chi) where
   path_len : (p : Path) → len (path_expr chi p) ≡ length p

@@ -2,7 +2,7 @@
 use Rattle.std.specs.Prelude.{true, ◌≡◌, ℕ, ◌<◌}
 use mathlib.Core.List.{[], ◌∷◌, ◌++◌}
 use Rattle.std.proofs.Math.Path.{refl}
-use Rattle.theory.specs.TestLaws.{facts}
+use Rattle.theory.proofs.TestLaws.{facts}
 use Rattle.theory.specs.Graph.{Graph}
 use Rattle.theory.specs.Path.{Path, Walk, end}
 use Rattle.theory.specs.Bisimulation.{Relation}

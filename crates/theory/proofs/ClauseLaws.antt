@@ -4,11 +4,11 @@ use Rattle.std.specs.Prelude.{◌≡◌, ◌↔◌, ℕ, ◌<◌}
 use Rattle.std.proofs.Math.Path.{refl}
 use mathlib.Core.List.{[], ◌∷◌, Memᴰ}
 use Rattle.std.proofs.Common.{arith}
-use Rattle.theory.specs.TestLaws.{eqb_iff, and_iff, if_iff, any_iff, every_iff}
+use Rattle.theory.proofs.TestLaws.{eqb_iff, and_iff, if_iff, any_iff, every_iff}
 use Rattle.theory.specs.Graph.{Comparison, same, differ, comparisons, Graph, Node, linked}
 use Rattle.theory.specs.Path.{hop, Path, Walk, end}
-use Rattle.theory.specs.WalkLaws.{out_iff, paths_iff}
-use Rattle.theory.specs.FollowLaws.{follow-below}
+use Rattle.theory.proofs.WalkLaws.{out_iff, paths_iff}
+use Rattle.theory.proofs.FollowLaws.{follow-below}
 use Rattle.theory.specs.Bisimulation.{Relation, flip, pairs, Alike, Image, Counterpart, Zig, Sides, one_sided, two_sided}
 use Rattle.theory.specs.Rounds.{follow, met, one_link, two_paths, zigs, zags}
 

@@ -5,7 +5,7 @@ use Rattle.std.proofs.Math.Nat.{le-suc_iff}
 use Rattle.theory.specs.Graph.{Graph, Node, WellFormed}
 use Rattle.theory.specs.Bisimulation.{Relation, flip, pairs, Zig, Sides, two_sided, Sided}
 use Rattle.theory.specs.Rounds.{after}
-use Rattle.theory.specs.GreatestLaws.{sided_iff, next_iff, descends, after_inside}
+use Rattle.theory.proofs.GreatestLaws.{sided_iff, next_iff, descends, after_inside}
 
 -- Such a family, with the clauses of one side or of both.
 pub record Family (s : Sides) (l r : Graph) (c : ℕ) (z : ℕ → Relation) : Type 0 where

@@ -17,11 +17,11 @@ use Rattle.theory.specs.Bound.{len, WithinPath, Within, depth_before, test_depth
 use Rattle.theory.specs.Path.{Path, end}
 use Rattle.theory.specs.Bisimulation.{Relation, pairs, Zig, Sides, one_sided, two_sided, Bisimulation, Spoken}
 use Rattle.theory.specs.Rounds.{follow, met}
-use Rattle.theory.specs.TestLaws.{facts, not_iff, test_eq}
-use Rattle.theory.specs.FollowLaws.{follow_split, follow-end}
-use Rattle.theory.specs.ClauseLaws.{met_iff, apart}
-use Rattle.theory.specs.FamilyLaws.{Family, turn, lower, steady}
-use Rattle.theory.specs.FitLaws.{Fits, Along, reach_fits}
+use Rattle.theory.proofs.TestLaws.{facts, not_iff, test_eq}
+use Rattle.theory.proofs.FollowLaws.{follow_split, follow-end}
+use Rattle.theory.proofs.ClauseLaws.{met_iff, apart}
+use Rattle.theory.proofs.FamilyLaws.{Family, turn, lower, steady}
+use Rattle.theory.proofs.FitLaws.{Fits, Along, reach_fits}
 
 -- A path expression that leads somewhere from a leads somewhere from b, if each end has a related end.
 some_end : {s : Sides} {l r : Graph} {c : ℕ} {z : ℕ → Relation} (f : Family s l r c z) (a b : ℕ) (w : PathExpr)

@@ -6,9 +6,9 @@ use mathlib.Core.List.{List, Memᴰ}
 use Rattle.theory.specs.Graph.{Comparison, same, differ, Graph, Node, Link, link, compared, data_graph, Inside, WellFormed}
 use Rattle.theory.specs.Expression.{PathExpr, NodeExpr, stay, step, test, seq, union, neg, conj, disj, exists, compare}
 use Rattle.theory.specs.Meaning.{reach, holds}
-use Rattle.theory.specs.TestLaws.{eqb_iff, and_iff, or_iff, not_iff, any_iff}
-use Rattle.theory.specs.WalkLaws.{has_iff, data_formed, walk_node}
-use Rattle.theory.specs.FitLaws.{reach_fits}
+use Rattle.theory.proofs.TestLaws.{eqb_iff, and_iff, or_iff, not_iff, any_iff}
+use Rattle.theory.proofs.WalkLaws.{has_iff, data_formed, walk_node}
+use Rattle.theory.proofs.FitLaws.{reach_fits}
 
 -- There are y and z among the nodes of g, the ends of w and of v from x, with the property.
 abbrev Ends : Graph → PathExpr → PathExpr → ℕ → (ℕ → ℕ → Type 0) → Type 0

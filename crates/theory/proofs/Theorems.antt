@@ -13,10 +13,10 @@ use Rattle.theory.specs.Bound.{Within, depth}
 use Rattle.theory.specs.Bisimulation.{Pairs, pairs, Sides, two_sided, Bisimulation, Greatest}
 use Rattle.theory.specs.Rounds.{related, settled, matched}
 use Rattle.theory.specs.Parting.{Tells, LeastDepth}
-use Rattle.theory.specs.TestLaws.{test_fails}
-use Rattle.theory.specs.ClauseLaws.{apart}
-use Rattle.theory.specs.GreatestLaws.{greatest}
-use Rattle.theory.specs.DescribingLaws.{agree_iff, keep_iff, dropped}
+use Rattle.theory.proofs.TestLaws.{test_fails}
+use Rattle.theory.proofs.ClauseLaws.{apart}
+use Rattle.theory.proofs.GreatestLaws.{greatest}
+use Rattle.theory.proofs.DescribingLaws.{agree_iff, keep_iff, dropped}
 
 module _ {l r : Graph} (c : ℕ) (wl : WellFormed l) (wr : WellFormed r) where
   -- Demand 2: the matched pairs are the greatest bisimulation for the bound. They form one, and every other lies within, computed or not.

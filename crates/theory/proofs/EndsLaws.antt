@@ -1,7 +1,7 @@
 -- What an expression means depends on the comparisons among the nodes alone.
 use Rattle.std.specs.Prelude.{Bool, not, ◌&&◌, ◌||◌, ◌≡◌, refl, ℕ, ◌<◌, eqb}
 use Rattle.std.proofs.Common.{ap, ap₂}
-use Rattle.theory.specs.TestLaws.{any_ext}
+use Rattle.theory.proofs.TestLaws.{any_ext}
 use Rattle.theory.specs.Graph.{Comparison, Graph}
 use Rattle.theory.specs.Expression.{PathExpr, NodeExpr, stay, step, test, seq, union, neg, conj, disj, exists, compare}
 use Rattle.theory.specs.Meaning.{reach, holds}

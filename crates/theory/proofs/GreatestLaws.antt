@@ -13,14 +13,14 @@ use Rattle.std.proofs.Math.Logic.{⊎_elim}
 use mathlib.Core.List.{[], ◌∷◌}
 use Prim.Native.Nat.{ℕ, zero, suc, ◌*◌, ◌≤◌, ◌<◌, suc-le-suc}
 use Rattle.std.proofs.Math.ListN.{get_or}
-use Rattle.theory.specs.TestLaws.{never, le-or-lt, and_iff, test_eq, list_at, list_past, list_ext}
+use Rattle.theory.proofs.TestLaws.{never, le-or-lt, and_iff, test_eq, list_at, list_past, list_ext}
 use Rattle.theory.specs.Graph.{Graph, Node, WellFormed, linked}
 use Rattle.theory.specs.Path.{Hop, hop, Path, Walk, end}
-use Rattle.theory.specs.WalkLaws.{linked_node}
+use Rattle.theory.proofs.WalkLaws.{linked_node}
 use Rattle.theory.specs.Bisimulation.{Relation, flip, Pairs, pairs, Under, Alike, Image, Zig, Sides, one_sided, two_sided, Sided, Greatest}
 use Rattle.theory.specs.Rounds.{Table, related, table, zigs, zags, round, rounds, after, settled}
-use Rattle.theory.specs.ClauseLaws.{apart, zigs_iff, zags_iff}
-use Rattle.theory.specs.SettleLaws.{sum, sum-le, sum-eq, sum_most, bit, bit_most, bit_le, bit-eq, stays, settles_by}
+use Rattle.theory.proofs.ClauseLaws.{apart, zigs_iff, zags_iff}
+use Rattle.theory.proofs.SettleLaws.{sum, sum-le, sum-eq, sum_most, bit, bit_most, bit_le, bit-eq, stays, settles_by}
 
 module _ (n m : ℕ) (z : Relation) where
   pub related-at : (a b : ℕ) → a < n → b < m → related (table n m z) a b ≡ z a b

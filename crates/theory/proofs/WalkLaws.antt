@@ -6,7 +6,7 @@ use Rattle.std.proofs.Math.Logic.{inl, inr, ⊎_elim}
 use mathlib.Core.Logic.Iff
 use mathlib.Core.List.Memᴰ
 use mathlib.Core.List.{List, [], ◌∷◌, map, Memᴰ, cons-ne-nil}
-use Rattle.theory.specs.TestLaws.{never, eqb_iff, and_iff, or_iff, sum_iff, cons_iff, append_iff}
+use Rattle.theory.proofs.TestLaws.{never, eqb_iff, and_iff, or_iff, sum_iff, cons_iff, append_iff}
 use Rattle.theory.specs.Graph.{Graph, Node, Link, link, data_graph, WellFormed, Inside, has, linked}
 use Rattle.theory.specs.Path.{Hop, hop, Path, Walk, end, out, onward, paths}
 

@@ -12,13 +12,13 @@ use native.Mathlib.Omega.{arith}
 use borrow.Author.Tests.{not-true}
 use Rattle.std.proofs.Math.ListN.{length}
 use Rattle.theory.specs.Search.{list}
-use Rattle.theory.specs.TestLaws.{never, and_iff, any_iff, every_iff, if_iff, le-or-lt}
+use Rattle.theory.proofs.TestLaws.{never, and_iff, any_iff, every_iff, if_iff, le-or-lt}
 use Rattle.theory.specs.Graph.{Comparison, comparisons, Graph}
 use Rattle.theory.specs.Path.{Hop, Path, Walk, end, out, onward}
-use Rattle.theory.specs.WalkLaws.{out_iff, onward_iff, paths_iff}
+use Rattle.theory.proofs.WalkLaws.{out_iff, onward_iff, paths_iff}
 use Rattle.theory.specs.Bisimulation.{Relation}
 use Rattle.theory.specs.Rounds.{met, one_link, two_paths, zigs}
-use Rattle.theory.specs.ClauseLaws.{listed}
+use Rattle.theory.proofs.ClauseLaws.{listed}
 use Rattle.theory.specs.Parting.{Reason, by_link, by_paths, LinkFails, PathsFail, Fails}
 use Rattle.theory.specs.Choosing.{Choice, none, some, or_else, when, first_in, paths_of, link_choice, pair_choice, lengths_choice, total_choice, paths_choice, chosen, Symmetric}
 

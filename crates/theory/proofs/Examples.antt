@@ -11,8 +11,8 @@ use Rattle.theory.specs.Bound.{len, ml, depth}
 use Rattle.theory.specs.Path.{end, out, onward, paths}
 use Rattle.theory.specs.Bisimulation.{two_sided, Greatest}
 use Rattle.theory.specs.Rounds.{follow, met, two_paths, one_link, zigs, zags, Table, related, table, round, rounds, settled}
-use Rattle.theory.specs.WalkLaws.{has_inside, data_formed}
-use Rattle.theory.specs.GreatestLaws.{greatest}
+use Rattle.theory.proofs.WalkLaws.{has_inside, data_formed}
+use Rattle.theory.proofs.GreatestLaws.{greatest}
 
 -- A graph whose links stay among its nodes.
 pub record Sound : Type 0 where

@@ -18,14 +18,14 @@ use Rattle.theory.specs.Meaning.{reach, holds}
 use Rattle.theory.specs.Bound.{Within, depth}
 use Rattle.theory.specs.Bisimulation.{Relation, flip, Sides, one_sided, two_sided, Spoken}
 use Rattle.theory.specs.Rounds.{related, after, settled, matched, one_link, two_paths, zigs, zags}
-use Rattle.theory.specs.TestLaws.{facts, le-or-lt, and_fails, if_fails, every_fails, test_eq, test_fails}
-use Rattle.theory.specs.WalkLaws.{out_iff, paths_iff, linked_node}
-use Rattle.theory.specs.ClauseLaws.{zigs_iff, zags_iff}
-use Rattle.theory.specs.GreatestLaws.{next_iff, start_iff, after_inside, greatest, round_most}
-use Rattle.theory.specs.FamilyLaws.{steady, rounds_family}
-use Rattle.theory.specs.InvarianceLaws.{keeps, bisimulation_agrees}
+use Rattle.theory.proofs.TestLaws.{facts, le-or-lt, and_fails, if_fails, every_fails, test_eq, test_fails}
+use Rattle.theory.proofs.WalkLaws.{out_iff, paths_iff, linked_node}
+use Rattle.theory.proofs.ClauseLaws.{zigs_iff, zags_iff}
+use Rattle.theory.proofs.GreatestLaws.{next_iff, start_iff, after_inside, greatest, round_most}
+use Rattle.theory.proofs.FamilyLaws.{steady, rounds_family}
+use Rattle.theory.proofs.InvarianceLaws.{keeps, bisimulation_agrees}
 use Rattle.theory.specs.Parting.{Tells, LeastDepth, Parts, Describes, Described, Describable, Reason, by_link, by_paths, Fails, asked}
-use Rattle.theory.specs.PartingLaws.{parting, part_back}
+use Rattle.theory.proofs.PartingLaws.{parting, part_back}
 
 -- a clause that is not met: which link, or which two paths
 pub failing : (l r : Graph) (c : ℕ) (z : Relation) (a b : ℕ) → zigs l r c z a b ≡ false → (why : Reason) × Fails l r c z a b why

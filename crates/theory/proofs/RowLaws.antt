@@ -12,11 +12,11 @@ use Rattle.theory.specs.Expression.{NodeExpr}
 use Rattle.theory.specs.Meaning.{holds}
 use Rattle.theory.specs.Bisimulation.{two_sided}
 use Rattle.theory.specs.Rounds.{after}
-use Rattle.theory.specs.GreatestLaws.{after_inside}
-use Rattle.theory.specs.FamilyLaws.{rounds_family}
-use Rattle.theory.specs.InvarianceLaws.{agrees}
+use Rattle.theory.proofs.GreatestLaws.{after_inside}
+use Rattle.theory.proofs.FamilyLaws.{rounds_family}
+use Rattle.theory.proofs.InvarianceLaws.{agrees}
 use Rattle.theory.specs.Parting.{Describes}
-use Rattle.theory.specs.DescribingLaws.{account}
+use Rattle.theory.proofs.DescribingLaws.{account}
 
 module _ {l r : Graph} (c : ℕ) (wl : WellFormed l) (wr : WellFormed r) (k : ℕ) where
   -- if a and a' share b, then a is related to what a' is related to
