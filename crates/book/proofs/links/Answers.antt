@@ -7,10 +7,10 @@ pub link_width-width-requires : goal.link_width-width-requires
 link_width-width-requires c = search part_long
 
 pub overflow_mul-end : goal.overflow_mul-end
-overflow_mul-end c = omega (arith, links_size c.link_width-width.result c.answer-1.given.0.0 (omega arith))
+overflow_mul-end c = omega (arith, links_size c.link_width-width.result c.in-Part.count (omega arith))
 
 pub overflow_add-end : goal.overflow_add-end
-overflow_add-end c = omega (arith, links_size c.link_width-width.result c.answer-1.given.0.0 (omega arith))
+overflow_add-end c = omega (arith, links_size c.link_width-width.result c.in-Part.count (omega arith))
 
 pub slice_bounds-result-end : goal.slice_bounds-result-end
 slice_bounds-result-end c = search part_end
