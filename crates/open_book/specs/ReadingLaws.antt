@@ -37,7 +37,7 @@ module _ (b : Bor (List ℕ)) where
     where
       go : (t : Bool) → eqb (book_refusal s) 0 ≡ t → (u : Bool) → ltb x (cells_of s) ≡ u → has_kept s (opened b).cells (opened b).links x ≡ (t && u)
       go true d true h =
-          let z = eqb-true _ _ d in
+          let z : book_refusal s ≡ 0 = eqb-true _ _ d in
           let room : link_start s (cells_of s) (links_of s) ≤ length s = omega (arith, (book_sizes s z).sized) in
           rw (answer_accepted s z, h, le-leb _ _ room)
       go true d false h = rw (answer_accepted s (eqb-true _ _ d), h)
