@@ -11,5 +11,4 @@ pub mod Widened
 pub mod WidenedLaws
 pub mod Examples
 pub mod OutcomeLaws
-pub mod HeardLaws
 pub mod PassesLaws
