@@ -8,7 +8,7 @@ use Rattle.std.proofs.Common.{sym, ◌∙◌, arith, le-ltb, ltb-true, ltb-false
 use Prim.Native.Nat.{ℕ, zero, suc, ◌+◌, ◌-◌, ◌*◌, ◌/◌, ◌%◌, ◌≤◌, ◌<◌}
 use Rattle.std.proofs.Math.ListN.{length-append}
 use Rattle.theory.specs.Graph.{same, differ}
-use Rattle.theory.specs.Expression.{NodeExpr, test, neg, conj, disj, exists, compare, always}
+use Rattle.theory.specs.Expression.{NodeExpr, neg, conj, disj, exists, compare, always}
 use Rattle.sheet.specs.Entry.{Step, Entry, truth, negation, conjunction, disjunction, way, comparison, named, spell_way, spell, expressions, tests, numbers, Below}
 use Rattle.sheet.specs.ExpressionLaws.{below-append}
 use Rattle.sheet.specs.Sheet.{count_of, entries_of, entry_at, entry_start, question_of, sheet_refusal}

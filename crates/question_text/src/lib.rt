@@ -117,7 +117,7 @@ fn put_sign(room: &mut [u8], at: usize, kind: u8) -> usize
 // steps left fall in the loop over a way
 
 // Writes the question of entry k at `at`, and gives the place after it.
-#[cycle(put_between_put_comparison_put_exists_put_not_put_question_put_second_put_step_put_steps_put_two_put_way)]
+#[cycle(writers)]
 fn put_question(sheet: &[u8], starts: &[u32], k: usize, room: &mut [u8], at: usize) -> usize
     requires { Started sheet.now starts.now (k + 1) × (at + length (text_of sheet.now k) ≤ length room.old) }
     ensures { PutBytes room.old at (text_of sheet.now k) room.new result }
@@ -141,7 +141,7 @@ fn put_question(sheet: &[u8], starts: &[u32], k: usize, room: &mut [u8], at: usi
 }
 
 // Writes a byte, the question of the entry i before k, and a byte.
-#[cycle(put_between_put_comparison_put_exists_put_not_put_question_put_second_put_step_put_steps_put_two_put_way)]
+#[cycle(writers)]
 fn put_between(
     sheet: &[u8],
     starts: &[u32],
@@ -161,7 +161,7 @@ fn put_between(
 }
 
 // Writes the not of entry k, which starts at `start`.
-#[cycle(put_between_put_comparison_put_exists_put_not_put_question_put_second_put_step_put_steps_put_two_put_way)]
+#[cycle(writers)]
 fn put_not(
     sheet: &[u8],
     starts: &[u32],
@@ -179,7 +179,7 @@ fn put_not(
 }
 
 // Writes the and or or of entry k.
-#[cycle(put_between_put_comparison_put_exists_put_not_put_question_put_second_put_step_put_steps_put_two_put_way)]
+#[cycle(writers)]
 fn put_two(
     sheet: &[u8],
     starts: &[u32],
@@ -200,7 +200,7 @@ fn put_two(
 }
 
 // Writes the way of entry k.
-#[cycle(put_between_put_comparison_put_exists_put_not_put_question_put_second_put_step_put_steps_put_two_put_way)]
+#[cycle(writers)]
 fn put_exists(
     sheet: &[u8],
     starts: &[u32],
@@ -219,7 +219,7 @@ fn put_exists(
 }
 
 // Writes the same (kind 5) or differ (kind 6) of entry k.
-#[cycle(put_between_put_comparison_put_exists_put_not_put_question_put_second_put_step_put_steps_put_two_put_way)]
+#[cycle(writers)]
 fn put_comparison(
     sheet: &[u8],
     starts: &[u32],
@@ -240,7 +240,7 @@ fn put_comparison(
 
 // Writes the sign of the same (kind 5) or differ (kind 6) of entry k, its second way, and its end. (The way is read here, so that it need not be kept
 // while the first is written.)
-#[cycle(put_between_put_comparison_put_exists_put_not_put_question_put_second_put_step_put_steps_put_two_put_way)]
+#[cycle(writers)]
 fn put_second(
     sheet: &[u8],
     starts: &[u32],
@@ -260,7 +260,7 @@ fn put_second(
 }
 
 // Writes a way of entry k: a dot, or its steps.
-#[cycle(put_between_put_comparison_put_exists_put_not_put_question_put_second_put_step_put_steps_put_two_put_way)]
+#[cycle(writers)]
 fn put_way(sheet: &[u8], starts: &[u32], k: usize, way: Steps, room: &mut [u8], at: usize) -> usize
     requires { WayOf sheet.now starts.now k way × (at + length (way_text_of sheet.now way) ≤ length room.old) }
     ensures { PutBytes room.old at (way_text_of sheet.now way) room.new result }
@@ -274,7 +274,7 @@ fn put_way(sheet: &[u8], starts: &[u32], k: usize, way: Steps, room: &mut [u8], 
 
 // Writes the steps of a way of entry k, one after another, while steps are left. (By a loop: a call of itself for the steps left would have up to 60
 // calls under way for each reference of a chain.)
-#[cycle(put_between_put_comparison_put_exists_put_not_put_question_put_second_put_step_put_steps_put_two_put_way)]
+#[cycle(writers)]
 fn put_steps(
     sheet: &[u8],
     starts: &[u32],
@@ -304,7 +304,7 @@ fn put_steps(
 }
 
 // Writes one step of a way of entry k: its label, and its test by the question of an earlier entry.
-#[cycle(put_between_put_comparison_put_exists_put_not_put_question_put_second_put_step_put_steps_put_two_put_way)]
+#[cycle(writers)]
 fn put_step(
     sheet: &[u8],
     starts: &[u32],

@@ -147,8 +147,8 @@ module _ (v : ℕ) where
         let assoc : (L ++ (N ++ E)) ++ rest ≡ L ++ (N ++ (E ++ rest)) = append_assoc L (N ++ E) rest ∙ ap (λ l. L ++ l) (append_assoc N E rest) in
         let l = length-bytes_of (label_width v) s.label in
         let m = length-bytes_of number_width s.test in
-        rw assoc
-        (ap₂ ◌∷◌
+        ap (λ b. steps_at v b 0 (suc (length ss))) assoc
+        ∙ (ap₂ ◌∷◌
         (ap₂ (λ a i. record { label = a; test = i }) (field-bytes_of-append (label_width v) s.label (N ++ (E ++ rest)) k.0)
         (field-behind L (N ++ (E ++ rest)) number_width (0 + label_width v) 0 (omega arith) ∙ number_back s.test (E ++ rest) h.0))
         (steps-behind L (N ++ (E ++ rest)) (0 + step_width v) number_width (length ss) (omega arith) ∙ steps-behind N (E ++ rest) number_width 0 (length ss) (omega arith) ∙ steps_back ss rest h.1 k.1))

@@ -6,10 +6,10 @@ use Rattle.answers.proofs.Told.{told}
 use Rattle.answers.proofs.pair_code.Goals as goal
 
 pub overflow_cast-start : goal.overflow_cast-start
-overflow_cast-start c = record { fits = search (start_fits, bytes_known, c.shared_slice_known-2-1.given) }
+overflow_cast-start c = record { fits = search (start_fits, bytes_known, c.type_inv.bytes) }
 
 pub code-requires-in-Parted : goal.code-requires-in-Parted
-code-requires-in-Parted c = (search (question_small, bytes_known, c.shared_slice_known-2-1.given), search (start_small, bytes_known, c.shared_slice_known-2-1.given))
+code-requires-in-Parted c = (search (question_small, bytes_known, c.type_inv.bytes), search (start_small, bytes_known, c.type_inv.bytes))
 
 pub returns-in-Matched : goal.returns-in-Matched
 returns-in-Matched c = search (told (λ a. code (pair_outcome a)))

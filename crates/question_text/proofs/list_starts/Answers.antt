@@ -10,7 +10,7 @@ pub entry_start-at-requires : goal.entry_start-at-requires
 entry_start-at-requires c = search fit_first
 
 pub loop-k-init : goal.loop-k-init
-loop-k-init c = (search holds_none, search rules, omega arith, search rules, search rules, record { each = λ i. let b = c.shared_slice_known-1.given i in omega arith })
+loop-k-init c = (search holds_none, search rules, omega arith, search rules, search rules, record { each = λ i. let b = c.type_inv.sheet i in omega arith })
 
 pub overflow_cast-starts : goal.overflow_cast-starts
 overflow_cast-starts c = search start_small

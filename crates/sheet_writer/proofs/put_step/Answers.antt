@@ -4,4 +4,4 @@ use Rattle.sheet_writer.proofs.Laws.{step-written}
 use Rattle.sheet_writer.proofs.put_step.Goals as goal
 
 pub returns : goal.returns
-returns c = (search step-written, omega arith)
+returns c = record { bytes = search step-written; end = omega arith }

@@ -15,4 +15,4 @@ pub loop-i-preserved : goal.loop-i-preserved
 loop-i-preserved c = (search steps_next, omega arith, omega arith, omega arith, search rules)
 
 pub returns : goal.returns
-returns c = (search steps-end, search steps-count)
+returns c = record { bytes = search steps-end; end = search steps-count }
