@@ -1,8 +1,8 @@
 -- `edges::load` meets its contract. The invariant: of the links passed, those that are seen are loaded.
-use mathlib.Core.Logic.{⊎_elim}
 use native.Mathlib.Omega.{arith}
 use Rattle.edges.proofs.Books.{book_long, links_few, from_low, to_low, filled_none, filled_more, filled_skip, filled_all}
 use Rattle.edges.proofs.load.Goals as goal
+use Rattle.edges.proofs.load.Goals.{then-clear, else-clear}
 
 pub links_of-e-requires : goal.links_of-e-requires
 links_of-e-requires c = search book_long
@@ -15,7 +15,7 @@ clear-requires c = (search from_low, search to_low)
 
 pub loop-k-preserved : goal.loop-k-preserved
 loop-k-preserved c =
-    ⊎_elim (λ w. (search filled_more, omega arith, omega arith, omega arith)) (λ w. (search filled_skip, omega arith, omega arith, omega arith)) c.if-clear.branch
+    elim c.if-clear.branch [ then-clear w ↦ (search filled_more, omega arith, omega arith, omega arith) | else-clear w ↦ (search filled_skip, omega arith, omega arith, omega arith) ]
 
 pub returns : goal.returns
 returns c = search filled_all
