@@ -1,11 +1,11 @@
 -- `search_links::row_by` meets its contract. The invariant: the labels of the links passed are not above; and what they lead to, and those still to come,
 -- is the row.
 use native.Mathlib.Omega.{arith}
-use mathlib.Core.Logic.{⊎_elim}
 use lib.Dec.{lit<}
 use borrow.Author.Rules.{rules}
 use Rattle.search_links.proofs.Laws.{targets_start, targets_in, targets_skip, targets_end, reach_of, reach_low, under_start, under_next, least_none, above_on, least_found}
 use Rattle.search_links.proofs.row_by.Goals as goal
+use Rattle.search_links.proofs.row_by.Goals.{then-found-by, else-found-by}
 
 pub loop-k-init : goal.loop-k-init
 loop-k-init c = (search rules, search rules, search rules, search rules, targets_start _ _ _ _, lit< tt, search reach_of, search under_start)
@@ -29,9 +29,10 @@ loop-k-preserved c =
     let l = c.loop-k-test.true in
     let d = c.label-found.ensures in
     let n = under_next _ _ _ _ i.7 _ d (omega (arith, c.if-by-found.false)) in
-    ⊎_elim
-    (λ w. (search rules, search rules, search rules, search rules, targets_in _ _ _ _ _ _ i.4 l _ d w.0.taken _ _ w.2.ensures w.3, omega arith, search rules, n))
-    (λ w. (search rules, search rules, search rules, search rules, targets_skip _ _ _ _ _ _ i.4 l _ d w.0.left _ w.1, omega arith, search rules, n)) c.if-found-by.branch
+    elim c.if-found-by.branch [
+      | then-found-by w ↦ (search rules, search rules, search rules, search rules, targets_in _ _ _ _ _ _ i.4 l _ d w.if-found-by.true _ _ w.with-set.ensures w.set-is, omega arith, search rules, n)
+      | else-found-by w ↦ (search rules, search rules, search rules, search rules, targets_skip _ _ _ _ _ _ i.4 l _ d w.if-found-by.false _ w.set-is, omega arith, search rules, n)
+    ]
 
 pub returns : goal.returns
 returns c = record { set = targets_end _ _ _ _ _ _ c.loop-k.invariant.4 (λ i p q. absurd (omega arith)) c.loop-k.invariant.5; next = search least_none }
