@@ -1,6 +1,6 @@
 -- What each turn and the way out of `settle_row` and `settle_all` shows of the definitions of `specs/`. The numbers that the code computed are
 -- variables here, with what is known of them, so that `search` finds them in a need's record.
-use mathlib.Core.Bool.{Bool, true, false, So, not, ◌&&◌, ◌||◌}
+use mathlib.Core.Bool.{Bool, true, false, So, ◌&&◌, ◌||◌}
 use mathlib.Core.List.{List}
 use mathlib.Core.Logic.{◌≢◌, ⊎_elim}
 use mathlib.Core.Path.{◌≡◌, refl, sym, ap, ap₂, ◌∙◌}
@@ -8,7 +8,7 @@ use Prim.Native.Nat.{ℕ, suc, ◌+◌, ◌*◌, ◌≤◌, ◌<◌}
 use native.Mathlib.Nat.{le_refl, mul-le-mul_right, suc-mul, add-zero, zero-mul}
 use native.Mathlib.Numerals.{add-one}
 use native.Mathlib.Omega.{arith}
-use borrow.Author.Tests.{eqb-true, ltb-true, not-false}
+use borrow.Author.Tests.{eqb-true, ltb-true}
 use lib.Dec.{ltb}
 use lib.ListN.{length, get_or}
 use Rattle.theory.specs.Bisimulation.{sides_of}
@@ -191,9 +191,9 @@ module _ {by : Basis} {i j twin : ℕ} {x₀ x : Lists} (inv : InRow by i j twin
     next_parted = parted_goes by i j x inv.row h
 
     -- a pair that stays, as is known or by the twin
-    pub next_stays : {b : Bool} → b ≡ (by.idle i j || (by.sizes.both && (ltb twin i && unparted by.sizes.right x.map twin j))) → not b ≡ false
+    pub next_stays : {b : Bool} → b ≡ (by.idle i j || (by.sizes.both && (ltb twin i && unparted by.sizes.right x.map twin j))) → b ≡ true
         → Goes by (i * by.sizes.right + j) (suc (i * by.sizes.right + j)) x x
-    next_stays {b} e t = ⊎_elim (idle_goes by i j x inv.row h) followed ((or_iff _ _).0 (sym e ∙ not-false b t))
+    next_stays {b} e t = ⊎_elim (idle_goes by i j x inv.row h) followed ((or_iff _ _).0 (sym e ∙ t))
       where
         followed : So (by.sizes.both && (ltb twin i && unparted by.sizes.right x.map twin j))
             → Goes by (i * by.sizes.right + j) (suc (i * by.sizes.right + j)) x x

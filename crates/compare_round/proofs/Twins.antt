@@ -1,13 +1,13 @@
 -- What each turn and each way out of `first_row`, `twin_of`, `follows` and `stays` shows of the definitions of `specs/`, and what holds of a twin from one column
 -- to the next.
-use mathlib.Core.Bool.{Bool, true, false, false≢true, cond, not, ◌&&◌, ◌||◌}
+use mathlib.Core.Bool.{Bool, true, false, cond, ◌&&◌, ◌||◌}
 use mathlib.Core.List.{List}
 use mathlib.Core.Path.{◌≡◌, refl}
 use mathlib.Core.Logic.{◌≢◌}
 use Prim.Native.Nat.{ℕ, ◌+◌, ◌*◌, ◌≤◌, ◌<◌}
 use native.Mathlib.Nat.{le_refl}
 use native.Mathlib.Omega.{arith}
-use borrow.Author.Tests.{eqb-true, eq-eqb, ne_eqb, lt-ltb, le-ltb, not-false, not-true}
+use borrow.Author.Tests.{eqb-true, eq-eqb, ne_eqb, lt-ltb, le-ltb}
 use lib.Dec.{eqb, ltb}
 use lib.ListN.{get_or}
 use Rattle.words.specs.Words.{bit}
@@ -46,30 +46,29 @@ module _ (m : ℕ) (map : List ℕ) (i j twin : ℕ) where
   twin_none h f = rw (le-ltb twin i h, ne_eqb (get_or map (i * m + j) 0) 0 f)
 
   -- ---- whether a pair stays by the twin
-  pub follows_one : (both : Bool) → not both ≡ true → false ≡ (both && (ltb twin i && unparted m map twin j))
-  follows_one true e = absurd (false≢true e)
-  follows_one false e = refl
+  pub follows_one : (both : Bool) → both ≡ false → false ≡ (both && (ltb twin i && unparted m map twin j))
+  follows_one both e = rw e
 
-  pub follows_row : (both b : Bool) → not both ≡ false → twin < i → b ≡ eqb (get_or map (twin * m + j) 0) 0 → b ≡ (both && (ltb twin i && unparted m map twin j))
-  follows_row both b d h e = rw (not-false both d, lt-ltb twin i h) e
+  pub follows_row : (both b : Bool) → both ≡ true → twin < i → b ≡ eqb (get_or map (twin * m + j) 0) 0 → b ≡ (both && (ltb twin i && unparted m map twin j))
+  follows_row both b d h e = rw (d, lt-ltb twin i h) e
 
-  pub follows_none : (both : Bool) → not both ≡ false → i ≤ twin → false ≡ (both && (ltb twin i && unparted m map twin j))
-  follows_none both d h = rw (not-false both d, le-ltb twin i h)
+  pub follows_none : (both : Bool) → both ≡ true → i ≤ twin → false ≡ (both && (ltb twin i && unparted m map twin j))
+  follows_none both d h = rw (d, le-ltb twin i h)
 
 -- ---- whether a pair stays, by the cells to be looked at or else
 module _ (live : Live) (i j : ℕ) (other a : Bool) (d : a ≡ bit live.left i) where
-  pub stays_left : not a ≡ true → true ≡ (idle_in live i j || other)
+  pub stays_left : a ≡ false → true ≡ (idle_in live i j || other)
   unfolding idle_in
-  stays_left e = rw (← d, not-true a e)
+  stays_left e = rw (← d, e)
 
-  module _ (f : not a ≡ false) (b : Bool) (d' : b ≡ bit live.right j) where
-    pub stays_right : not b ≡ true → true ≡ (idle_in live i j || other)
+  module _ (f : a ≡ true) (b : Bool) (d' : b ≡ bit live.right j) where
+    pub stays_right : b ≡ false → true ≡ (idle_in live i j || other)
     unfolding idle_in
-    stays_right e = rw (← d, ← d', not-false a f, not-true b e)
+    stays_right e = rw (← d, ← d', f, e)
 
-    pub stays_else : not b ≡ false → (r : Bool) → r ≡ other → r ≡ (idle_in live i j || other)
+    pub stays_else : b ≡ true → (r : Bool) → r ≡ other → r ≡ (idle_in live i j || other)
     unfolding idle_in
-    stays_else e r k = rw (← d, ← d', not-false a f, not-false b e) k
+    stays_else e r k = rw (← d, ← d', f, e) k
 
 -- ---- from column to column
 module _ {m : ℕ} {map : List ℕ} {i j twin : ℕ} (t : Twin m map i j twin) where

@@ -1,9 +1,9 @@
 -- `compare_round::settle_row` meets its contract. The invariant: the round stands before the column, and the twin is one.
-use mathlib.Core.Logic.{⊎_elim}
 use mathlib.Core.Path.{refl}
 use native.Mathlib.Omega.{arith}
 use Rattle.compare_pair.specs.Laws.{stands_unknowing, goes_knowing}
 use Rattle.compare_round.proofs.Exits.{row_begun, row_stands, row_done, row_small, width_small, place_small, inside, inside_next, undecided, next_stays, next_parted, row_next, row_places, goes_to}
+use Rattle.compare_round.proofs.settle_row.Goals.{then-map-place-eq0+then-not-stays, then-map-place-eq0+else-not-stays, else-map-place-eq0}
 use Rattle.compare_round.proofs.settle_row.Goals as goal
 
 pub loop-column-init : goal.loop-column-init
@@ -44,7 +44,11 @@ twin_of-twin-requires c =
     let inv = c.loop-column.invariant in
     let h = c.loop-column-test.true in
     let u = inside inv h in
-    ⊎_elim (λ w. rw w.13 (inside_next inv h (goes_knowing w.7.ensures))) (⊎_elim (λ w. rw w.5 u) (λ w. rw w.2 u)) c.if-map-place-eq0.branch
+    elim c.if-map-place-eq0.branch [
+      | then-map-place-eq0+then-not-stays w ↦ rw w.map-is (inside_next inv h (goes_knowing w.settle-p.ensures))
+      | then-map-place-eq0+else-not-stays w ↦ rw w.map-is u
+      | else-map-place-eq0 w ↦ rw w.map-is u
+    ]
 
 pub overflow_step-column : goal.overflow_step-column
 overflow_step-column c = omega (arith, width_small c.loop-column.invariant, c.loop-column-test.true)
@@ -56,9 +60,11 @@ pub loop-column-preserved : goal.loop-column-preserved
 loop-column-preserved c =
     let inv = c.loop-column.invariant in
     let h = c.loop-column-test.true in
-    row_next inv h (⊎_elim (λ w. goes_to (goes_knowing w.7.ensures) w.12 w.13 w.14 w.15)
-    (⊎_elim (λ w. goes_to (next_stays inv h w.2.ensures w.3.left) w.4 w.5 w.6 w.7)
-    (λ w. goes_to (next_parted inv h w.0.left) w.1 w.2 w.3 w.4)) c.if-map-place-eq0.branch) _ c.twin_of-twin.ensures
+    row_next inv h (elim c.if-map-place-eq0.branch [
+      | then-map-place-eq0+then-not-stays w ↦ goes_to (goes_knowing w.settle-p.ensures) w.room-is w.map-is w.new-is w.p-is
+      | then-map-place-eq0+else-not-stays w ↦ goes_to (next_stays inv h w.stays.ensures w.if-not-stays.false) w.room-is w.map-is w.new-is w.p-is
+      | else-map-place-eq0 w ↦ goes_to (next_parted inv h w.if-map-place-eq0.false) w.room-is w.map-is w.new-is w.p-is
+    ]) _ c.twin_of-twin.ensures
 
 pub shape_of-map : goal.shape_of-map
 shape_of-map c = search row_places
