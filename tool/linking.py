@@ -10,6 +10,7 @@ from refusals import Trouble
 
 ROOT = os.path.dirname(os.path.dirname(os.path.abspath(__file__)))
 ARCHIVE = os.path.join(ROOT, "target", "staticlib", "libcapi.a")
+CAPI = os.path.join(ROOT, "crates", "capi")
 FOLDER = os.path.join(ROOT, "target", "tool")
 SHARED = os.path.join(FOLDER, "libcuhnavel.so")
 
@@ -45,10 +46,13 @@ def newer(path, others):
 
 
 def sources():
-    """What the library is made of."""
+    """What the library is made of: all below crates/ but what rt makes there."""
     yield os.path.join(ROOT, "crates.txt")
-    for folder, _, files in os.walk(os.path.join(ROOT, "crates")):
-        yield folder
+    for folder, folders, files in os.walk(os.path.join(ROOT, "crates")):
+        if "out" in folders:
+            folders.remove("out")
+        else:
+            yield folder  # rt's `out` changes the folder that it is made in
         for file in files:
             yield os.path.join(folder, file)
 
@@ -69,10 +73,12 @@ def build():
 
 def build_archive():
     say("proving and building the library first; on two cores this may take ten minutes")
-    run(["rt", "staticlib", "capi"], "the library could not be proved and built", "the Rattle kit (rt)")
-    if not os.path.exists(ARCHIVE):
-        raise Trouble("the library could not be built: rt staticlib capi wrote no target/staticlib/libcapi.a")
-    os.utime(ARCHIVE)
+    made = os.path.join(CAPI, "out", "libcapi.a")
+    run(["rt", "lib"], "the library could not be proved and built", "the Rattle kit (rt)", CAPI)
+    if not os.path.exists(made):
+        raise Trouble("the library could not be built: rt lib wrote no crates/capi/out/libcapi.a")
+    os.makedirs(os.path.dirname(ARCHIVE), exist_ok=True)
+    shutil.copy(made, ARCHIVE)
 
 
 def link():
@@ -86,11 +92,11 @@ def link():
             os.unlink(beside)
 
 
-def run(command, failed, needed):
+def run(command, failed, needed, where=ROOT):
     """Runs a program quietly; what it said is said if it fails."""
     if not shutil.which(command[0]):
         raise Trouble(f"{failed}: {needed} is needed and is not installed")
-    done = subprocess.run(command, cwd=ROOT, stdin=subprocess.DEVNULL, stdout=subprocess.PIPE, stderr=subprocess.STDOUT)
+    done = subprocess.run(command, cwd=where, stdin=subprocess.DEVNULL, stdout=subprocess.PIPE, stderr=subprocess.STDOUT)
     if done.returncode:
         last = done.stdout.decode("utf-8", "replace").strip().splitlines()[-5:]
         raise Trouble("\n".join([f"{failed}:", *last]))

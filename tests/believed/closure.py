@@ -15,7 +15,7 @@ FOR_C = "capi"
 OTHERS = ["open_book", "listing_text"]
 
 NAME = r"(?!(?:=|→|↦|λ|let|in)\s)[^\s:(){}\[\],;.]+"
-USE = re.compile(r"^(?:ghost )?use Rattle·(\w+?)(?:·specs)?\.specs\.([\w.-]+?)(?:\.\{(.*?)\}| as (\w+))?;?$", re.S)
+USE = re.compile(r"^(?:ghost )?use Rattle\.(\w+)\.specs\.([\w.-]+?)(?:\.\{(.*?)\}| as (\w+))?;?$", re.S)
 FUNCTION = re.compile(r"^ *pub (?:extern \"C\" )?fn (\w+)(.*?)^ *\{$", re.M | re.S)
 TYPE = re.compile(rf"(?:pub )?(?P<kind>record|data) (?P<name>{NAME})")
 SIGNATURE = re.compile(rf"(?P<kept>(?:abbrev|unfoldable) )?(?:pub )?(?P<names>{NAME}(?: {NAME})*) :(?: |$)")
@@ -56,9 +56,9 @@ def indent(line):
 
 
 class File:
-    def __init__(self, crate, name):
+    def __init__(self, crate, name, folder="specs"):
         self.crate, self.name = crate, name
-        self.path = ROOT / "crates" / crate / "specs" / f"{name}.antt"
+        self.path = ROOT / "crates" / crate / folder / f"{name}.antt"
         lines = [re.sub(r"(^|\s)--(\s.*|$)", "", line).rstrip() for line in self.path.read_text().splitlines()]
         self.imports = imports(lines)
         self.declarations = []
@@ -138,10 +138,11 @@ class Closure:
         """Follows the names of a text, by what is brought in and what the file itself declares. Gives the files where they are declared."""
         found = set()
         for word in set(words(text)):
+            # a part of what a name gives is written with a dot, as is a name of a file that is brought in under a name
             name, _, inner = word.partition(".") if not word.startswith(".") else ("", "", "")
-            if own and word in own.declared:
-                self.reach(own, own.declared[word])
-            elif name in names and (names[name][2] is None or not inner):
+            if own and name in own.declared:
+                self.reach(own, own.declared[name])
+            elif name in names:
                 crate, file, meant = names[name]
                 target = self.file(crate, file)
                 meant = meant or inner
@@ -161,7 +162,7 @@ class Closure:
 
     def ordered(self):
         """The files, each after those that it uses; otherwise by the crates' order in crates.txt and by name."""
-        crates = [line.partition(":")[0] for line in (ROOT / "crates.txt").read_text().splitlines()]
+        crates = [line.partition(":")[0].partition(" ")[0] for line in (ROOT / "crates.txt").read_text().splitlines()]
         done = []
 
         def visit(key, under):
