@@ -21,10 +21,10 @@ use Rattle.sheet.specs.WrittenLaws.{Writable, written-length}
 use Rattle.sheet_writer.specs.Writing.{Holding}
 use Rattle.sheet_writer.specs.WritingLaws.{holding_sheet, sheet_kept-after}
 use Rattle.compare_laws.specs.Places.{zeros}
-use Rattle.compare_laws.specs.PlaceLaws.{zeros-nonzeros}
+use Rattle.compare_laws.proofs.PlaceLaws.{zeros-nonzeros}
 use Rattle.compare_laws.specs.Room.{pair_bytes, room_needed}
 use Rattle.compare_laws.specs.Refining.{Compared}
-use Rattle.compare_laws.specs.Theorems.{compared_writable, compared_room}
+use Rattle.compare_laws.proofs.Theorems.{compared_writable, compared_room}
 use Rattle.compare_entries.specs.declared.Pen.{Pen}
 use Rattle.compare_lists.specs.BookSetting.{sheet_version, setting_of}
 use Rattle.compare_lists.specs.Comparing.{Lent, Fills}

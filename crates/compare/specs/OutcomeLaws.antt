@@ -13,7 +13,7 @@ use Rattle.book.specs.BookGraph.{hides_beyond}
 use Rattle.book.specs.OutcomeLaws.{book_refusal_most}
 use Rattle.compare_laws.specs.Room.{room_needed}
 use Rattle.compare_laws.specs.Places.{zeros}
-use Rattle.compare_laws.specs.PlaceLaws.{zeros-nonzeros}
+use Rattle.compare_laws.proofs.PlaceLaws.{zeros-nonzeros}
 use Rattle.compare_lists.specs.BookSetting.{sheet_version}
 use Rattle.compare.specs.declared.CompareAnswer.{CompareAnswer}
 use Rattle.compare.specs.Compare.{pairs_of, lent_answer, compare_answer, compare_outcome, compared_map, compared_sheet, Lists, right_answer}

@@ -26,9 +26,9 @@ use Rattle.compare_laws.specs.Room.{room_needed}
 use Rattle.compare_laws.specs.Comparison.{comparison}
 use Rattle.compare_laws.specs.Places.{placed}
 use Rattle.compare_laws.specs.Refining.{Comparable, Compared}
-use Rattle.compare_laws.specs.DefinedLaws.{comparison-compared, comparison-any}
+use Rattle.compare_laws.proofs.DefinedLaws.{comparison-compared, comparison-any}
 use Rattle.compare_laws.specs.Places.{zero_pairs}
-use Rattle.compare_laws.specs.Theorems.{zero_pairs-settled, zero_pairs_greatest, zero_keeps as place-keeps, zero_agrees, node_place, compared_writable, compared_room}
+use Rattle.compare_laws.proofs.Theorems.{zero_pairs-settled, zero_pairs_greatest, zero_keeps as place-keeps, zero_agrees, node_place, compared_writable, compared_room}
 use Rattle.compare_lists.specs.BookSetting.{sheet_version, setting_of}
 use Rattle.compare_lists.specs.Laws.{books_comparable}
 use Rattle.compare.specs.Compare.{pairs_of, compared, compared_map, compared_sheet}

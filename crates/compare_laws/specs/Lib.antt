@@ -1,14 +1,6 @@
 pub mod Places
-pub mod PlaceLaws
 pub mod Setting
 pub mod Room
 pub mod Comparison
 pub mod Entries
-pub mod EntryLaws
 pub mod Refining
-pub mod StepLaws
-pub mod WritingLaws
-pub mod RoundLaws
-pub mod DefinedLaws
-pub mod Theorems
-pub mod Examples

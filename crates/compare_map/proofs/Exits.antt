@@ -22,7 +22,7 @@ use Rattle.edges.specs.Laws.{rows_none, rows_more}
 use Rattle.answers.specs.Row.{row_word, row_answer, word_in}
 use Rattle.answers.specs.RowLaws.{row-given}
 use Rattle.compare_laws.specs.Places.{start_at, zeros}
-use Rattle.compare_laws.specs.PlaceLaws.{place_below, row_below}
+use Rattle.compare_laws.proofs.PlaceLaws.{place_below, row_below}
 use Rattle.compare_map.specs.Relation.{Mapped, rows_of, column_of, columns_of}
 
 -- ---- the rows

@@ -7,7 +7,7 @@ use Rattle.words.specs.Laws.{bit-word_of-lt}
 use Rattle.edges.specs.Laws.{rows_at}
 use Rattle.answers.specs.Row.{zero_from, row_word}
 use Rattle.compare_laws.specs.Places.{unparted, zeros}
-use Rattle.compare_laws.specs.PlaceLaws.{zeros-nonzeros}
+use Rattle.compare_laws.proofs.PlaceLaws.{zeros-nonzeros}
 use Rattle.compare_laws.specs.Setting.{Setting, relation_after}
 use Rattle.compare_laws.specs.Comparison.{State}
 use Rattle.compare_laws.specs.Refining.{Refined}

@@ -16,8 +16,8 @@ use Rattle.compare_laws.specs.Room.{pair_entries, pair_bytes}
 use Rattle.compare_laws.specs.Places.{placed}
 use Rattle.compare_laws.specs.Setting.{Setting, relation_after}
 use Rattle.compare_laws.specs.Comparison.{Cause, ahead, back, Verdict, remains, parted_by, verdict, obey, state_at}
-use Rattle.compare_laws.specs.StepLaws.{verdict_left, verdict_right, verdict-alone, verdict_none}
-use Rattle.compare_laws.specs.DefinedLaws.{place_inside, state_refined, zero-next, zero_few, zero_room}
+use Rattle.compare_laws.proofs.StepLaws.{verdict_left, verdict_right, verdict-alone, verdict_none}
+use Rattle.compare_laws.proofs.DefinedLaws.{place_inside, state_refined, zero-next, zero_few, zero_room}
 use Rattle.compare_entries.specs.Growing.{Roomy}
 use Rattle.compare_entries.specs.GrowingLaws.{onward_none}
 use Rattle.compare_entries.specs.Parting.{listed, cause_in, Puttable, PartFits, Lists, Parted}

@@ -14,10 +14,10 @@ use lib.ListN.{length, get_or}
 use Rattle.theory.specs.Bisimulation.{sides_of}
 use Rattle.theory.proofs.TestLaws.{and_iff, or_iff}
 use Rattle.compare_laws.specs.Places.{placed, unparted}
-use Rattle.compare_laws.specs.PlaceLaws.{place_below}
+use Rattle.compare_laws.proofs.PlaceLaws.{place_below}
 use Rattle.compare_laws.specs.Setting.{Setting}
 use Rattle.compare_laws.specs.Comparison.{state_at}
-use Rattle.compare_laws.specs.DefinedLaws.{state_refined, nonzero_next, kept_next, shared_next, zero_still}
+use Rattle.compare_laws.proofs.DefinedLaws.{state_refined, nonzero_next, kept_next, shared_next, zero_still}
 use Rattle.compare_entries.specs.declared.Pen.{Pen}
 use Rattle.compare_entries.specs.Parting.{Lists, lists}
 use Rattle.compare_entries.specs.GrowingLaws.{onward_none}

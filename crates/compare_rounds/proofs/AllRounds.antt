@@ -9,7 +9,7 @@ use Rattle.words.specs.Words.{bit}
 use Rattle.words.specs.Laws.{full_word_of, bit-word_of-lt}
 use Rattle.compare_laws.specs.Setting.{Setting}
 use Rattle.compare_laws.specs.Refining.{Comparable}
-use Rattle.compare_laws.specs.DefinedLaws.{state_refined}
+use Rattle.compare_laws.proofs.DefinedLaws.{state_refined}
 use Rattle.compare_entries.specs.Growing.{Onward}
 use Rattle.compare_entries.specs.GrowingLaws.{onward_none, onward-more}
 use Rattle.compare_entries.specs.Parting.{Lists}

@@ -12,7 +12,7 @@ use Rattle.words.specs.Words.{bit}
 use Rattle.search_links.specs.Hops.{Opened}
 use Rattle.compare_laws.specs.Setting.{Setting, pairs, relation_after}
 use Rattle.compare_laws.specs.Comparison.{State, turned, upto, states, state_at}
-use Rattle.compare_laws.specs.DefinedLaws.{state_refined, still_last, entries_few}
+use Rattle.compare_laws.proofs.DefinedLaws.{state_refined, still_last, entries_few}
 use Rattle.compare_map.specs.Relation.{Mapped, rows_of, columns_of, Tells}
 use Rattle.compare_map.specs.Laws.{rows-begin, columns_tell}
 use Rattle.compare_entries.specs.declared.Pen.{Pen}

@@ -41,7 +41,7 @@ use Rattle.answers.specs.Pair.{place_of, place_answer, pair_answer}
 use Rattle.answers.specs.PairLaws.{pair_given}
 use Rattle.answers.specs.declared.PairAnswer.TheVariants as pair
 use Rattle.compare_laws.specs.Places.{placed, zeros, zero_pairs}
-use Rattle.compare_laws.specs.PlaceLaws.{place_below}
+use Rattle.compare_laws.proofs.PlaceLaws.{place_below}
 use Rattle.compare.specs.declared.CompareAnswer.{CompareAnswer}
 use Rattle.compare.specs.declared.CompareAnswer.TheVariants as says
 use Rattle.compare.specs.Compare.{compared_map, compared_sheet, Lists, left_by, right_answer, compare_outcome, IsCompare, IsCompareCode, Accepts}

@@ -20,13 +20,13 @@ use Rattle.theory.proofs.DescribingLaws.{always_describes, parts_least}
 use Rattle.sheet.specs.Entry.{Entry}
 use Rattle.sheet.specs.Encoding.{body_of, encode_entry, encode}
 use Rattle.compare_laws.specs.Places.{placed, start_map, unparted, unparted_before}
-use Rattle.compare_laws.specs.PlaceLaws.{place_below, length_start, start_placed, start_unparted}
+use Rattle.compare_laws.proofs.PlaceLaws.{place_below, length_start, start_placed, start_unparted}
 use Rattle.compare_laws.specs.Setting.{Setting, swapped, pairs, relation_after}
 use Rattle.compare_laws.specs.Entries.{Sheet}
-use Rattle.compare_laws.specs.EntryLaws.{grows_refl, sheet_truth, expression-zero}
+use Rattle.compare_laws.proofs.EntryLaws.{grows_refl, sheet_truth, expression-zero}
 use Rattle.compare_laws.specs.Comparison.{State, begin, turned, upto, states, comparison}
 use Rattle.compare_laws.specs.Refining.{Comparable, DescribedBy, Refined, Compared}
-use Rattle.compare_laws.specs.StepLaws.{described_more, kept_clauses, settle_stays}
+use Rattle.compare_laws.proofs.StepLaws.{described_more, kept_clauses, settle_stays}
 
 -- entry 0 describes every node, for a relation of all nodes
 zeros_describe : {s : Setting} {d : ℕ} {z : Relation} {es : List Entry} → Sheet s.version s.bound es → s.left.size ≤ 64

@@ -15,14 +15,14 @@ use Rattle.theory.proofs.ChoosingLaws.{chosen_fails, chosen_none}
 use Rattle.sheet.specs.Sheet.{most_entries}
 use Rattle.sheet.specs.Encoding.{encode}
 use Rattle.compare_laws.specs.Places.{placed}
-use Rattle.compare_laws.specs.PlaceLaws.{nonzeros_most, place_below, place_over, place_under, row_below, column_below}
+use Rattle.compare_laws.proofs.PlaceLaws.{nonzeros_most, place_below, place_over, place_under, row_below, column_below}
 use Rattle.compare_laws.specs.Setting.{Setting, pairs, relation_after}
 use Rattle.compare_laws.specs.Room.{pair_entries, pair_bytes, room_needed}
 use Rattle.compare_laws.specs.Comparison.{State, begin, turned, verdict, obey, settle, upto, states, state_at, comparison}
 use Rattle.compare_laws.specs.Refining.{Comparable, Refined, Compared}
-use Rattle.compare_laws.specs.StepLaws.{verdict_left, verdict_right, kept_clauses, settle_stays, stays_refined, shares_related, zero-related, zero_spare}
-use Rattle.compare_laws.specs.WritingLaws.{ahead_refined, back_refined}
-use Rattle.compare_laws.specs.RoundLaws.{begin_refined, turned_refined, still_compared, last_compared}
+use Rattle.compare_laws.proofs.StepLaws.{verdict_left, verdict_right, kept_clauses, settle_stays, stays_refined, shares_related, zero-related, zero_spare}
+use Rattle.compare_laws.proofs.WritingLaws.{ahead_refined, back_refined}
+use Rattle.compare_laws.proofs.RoundLaws.{begin_refined, turned_refined, still_compared, last_compared}
 
 -- the clauses from right to left, where both sides count
 back_holds : (x : Sides) (l r : Graph) (c : ℕ) (z : Relation) (a b : ℕ) → x ≡ two_sided → So (zigs r l c (flip z) b a) → So (zags x l r c z a b)

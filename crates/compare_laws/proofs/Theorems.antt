@@ -17,7 +17,7 @@ use Rattle.sheet.specs.Encoding.{sheet_bytes}
 use Rattle.sheet.specs.WrittenLaws.{Writable, written-length}
 use Rattle.compare_laws.specs.Places.{placed, unparted, zero_pairs, nonzeros}
 use Rattle.sheet.specs.Sheet.{hidden_place}
-use Rattle.compare_laws.specs.PlaceLaws.{nonzeros_most, among_inside, among-at, eq-or-ne, hidden_beyond}
+use Rattle.compare_laws.proofs.PlaceLaws.{nonzeros_most, among_inside, among-at, eq-or-ne, hidden_beyond}
 use Rattle.compare_laws.specs.Setting.{Setting, pairs}
 use Rattle.compare_laws.specs.Room.{pair_bytes, room_needed}
 use Rattle.compare_laws.specs.Refining.{Comparable, Compared}

@@ -18,7 +18,7 @@ use Rattle.theory.proofs.RowLaws.{across}
 use Rattle.sheet.specs.Entry.{Entry}
 use Rattle.compare_laws.specs.Room.{pair_bytes}
 use Rattle.compare_laws.specs.Places.{placed, unparted, nonzeros}
-use Rattle.compare_laws.specs.PlaceLaws.{nonzeros-set, nonzeros_most, eq-or-ne, place_below, place_row, place_column, place_over, place_under, placed-set, placed-other}
+use Rattle.compare_laws.proofs.PlaceLaws.{nonzeros-set, nonzeros_most, eq-or-ne, place_below, place_row, place_column, place_over, place_under, placed-set, placed-other}
 use Rattle.compare_laws.specs.Setting.{Setting, pairs, relation_after}
 use Rattle.compare_laws.specs.Entries.{Grows}
 use Rattle.compare_laws.specs.Comparison.{State, ahead, back, remains, parted_by, verdict_of, counted, verdict, obey, settle, upto, states}

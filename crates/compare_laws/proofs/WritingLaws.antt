@@ -20,14 +20,14 @@ use Rattle.sheet.specs.Sheet.{most_bound}
 use Rattle.sheet.specs.Encoding.{encode}
 use Rattle.sheet.specs.WrittenLaws.{size_of}
 use Rattle.compare_laws.specs.Places.{unparted}
-use Rattle.compare_laws.specs.PlaceLaws.{eq-or-ne, place_row, place_column, placed-other}
+use Rattle.compare_laws.proofs.PlaceLaws.{eq-or-ne, place_row, place_column, placed-other}
 use Rattle.compare_laws.specs.Setting.{Setting, swapped, relation_after}
 use Rattle.compare_laws.specs.Entries.{Sheet, Fit, Grows, Narrow}
-use Rattle.compare_laws.specs.EntryLaws.{grows_refl, grows_append, grows_trans, sheet_snoc, expression-zero, length_snoc, length-encode_snoc, fit_negation, fit_conjunction, spell-reason_entry, size_reason_entry, fit_reason_entry}
+use Rattle.compare_laws.proofs.EntryLaws.{grows_refl, grows_append, grows_trans, sheet_snoc, expression-zero, length_snoc, length-encode_snoc, fit_negation, fit_conjunction, spell-reason_entry, size_reason_entry, fit_reason_entry}
 use Rattle.compare_laws.specs.Room.{reason_bytes}
 use Rattle.compare_laws.specs.Comparison.{State, ahead, back, with_denial, conjoined, conjoint, name_left, describe_right, write, part, parted_by, verdict, obey, settle, reason_entry}
 use Rattle.compare_laws.specs.Refining.{Comparable, PartsPair, DescribesNode, DescribedBy, Redescribed, Refined}
-use Rattle.compare_laws.specs.StepLaws.{describes_more, described_more, redescribed_more, written_refined}
+use Rattle.compare_laws.proofs.StepLaws.{describes_more, described_more, redescribed_more, written_refined}
 
 -- ---- "i and j"
 
