@@ -19,8 +19,8 @@ use Rattle.book.specs.AcceptedLaws.{book_sizes}
 use Rattle.book.specs.SeenLaws.{seen_graph}
 use Rattle.book.specs.declared.Hidden.{Hidden}
 use Rattle.sheet.specs.Sheet.{count_of, question_of, sheet_refusal, sheet_answer}
-use Rattle.sheet.specs.PassedLaws.{accepted_head}
-use Rattle.sheet.specs.AcceptedLaws.{answer_accepting, answer_refusing}
+use Rattle.sheet.proofs.PassedLaws.{accepted_head}
+use Rattle.sheet.proofs.AcceptedLaws.{answer_accepting, answer_refusing}
 use Rattle.sheet.specs.declared.SheetAnswer.{SheetAnswer}
 use Rattle.sheet.specs.declared.SheetAnswer.TheVariants.{Accepted, Refused}
 use Rattle.edges.specs.Edges.{Rows}
