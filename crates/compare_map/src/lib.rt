@@ -1,5 +1,7 @@
 // The map of a comparison: begun, counted, and read as a relation in words. A relation of left and right cells is a row a left cell: the
 // set of the right cells that are related to it.
+#![tactic(auto)]
+
 ghost use Rattle.std.specs.Prelude.{◌≡◌, ◌*◌, ◌≤◌, ◌<◌, length, replicate};
 ghost use Rattle.theory.specs.Search.{list};
 ghost use Rattle.book.specs.BookGraph.{showing};

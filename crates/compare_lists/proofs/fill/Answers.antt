@@ -1,4 +1,5 @@
 -- `compare_lists::fill` meets its contract.
+use borrow.Author.Rules.{rules}
 use Rattle.compare_lists.proofs.Exits.{left_long, right_long, map-asked, opened, filled}
 use Rattle.compare_lists.proofs.fill.Goals as goal
 
@@ -15,7 +16,7 @@ pub begin-pen-requires : goal.begin-pen-requires
 begin-pen-requires c = map-asked c.requires _ c.cells_of-m.ensures.0
 
 pub refine-requires : goal.refine-requires
-refine-requires c = opened c.requires _ c.sheet_version-version.ensures c.cells_of-m.ensures.0 c.begin-pen.ensures c.shared_slice_known-1.given c.shared_slice_known-2-1.given c.read.ensures c.read-2.ensures c.cells_of-n.ensures.0
+refine-requires c = opened c.requires _ c.sheet_version-version.ensures c.cells_of-m.ensures.0 c.begin-pen.ensures (search rules) (search rules) c.read.ensures c.read-2.ensures c.cells_of-n.ensures.0
 
 pub returns : goal.returns
-returns c = filled c.requires _ c.sheet_version-version.ensures c.cells_of-m.ensures.0 c.begin-pen.ensures c.shared_slice_known-1.given c.shared_slice_known-2-1.given c.read.ensures c.read-2.ensures c.cells_of-n.ensures.0 c.refine.ensures
+returns c = filled c.requires _ c.sheet_version-version.ensures c.cells_of-m.ensures.0 c.begin-pen.ensures (search rules) (search rules) c.read.ensures c.read-2.ensures c.cells_of-n.ensures.0 c.refine.ensures

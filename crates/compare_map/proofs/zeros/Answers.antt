@@ -9,9 +9,9 @@ loop-k-init c = (omega arith, omega arith, omega arith)
 
 pub loop-k-preserved : goal.loop-k-preserved
 loop-k-preserved c = elim c.if-map-k-eq0.branch [
-      | then-map-k-eq0 w ↦ (search zeros-more, omega arith, omega arith)
-      | else-map-k-eq0 w ↦ (search zeros_skip, omega arith, omega arith)
-    ]
+  | then-map-k-eq0 w ↦ (search zeros-more, omega arith, omega arith)
+  | else-map-k-eq0 w ↦ (search zeros_skip, omega arith, omega arith)
+]
 
 pub returns : goal.returns
 returns c = search zeros_all
