@@ -32,7 +32,7 @@ use Rattle.edge_groups.specs.Laws.{inside_same}
 use Rattle.sheet.specs.Known.{EntriesFit}
 use Rattle.evaluate.specs.QuestionWord.{question_word}
 use Rattle.evaluate.specs.Evaluation.{tables, rows_for, evaluated, TablesOf}
-use Rattle.evaluate.specs.EvaluatedLaws.{words_evaluated}
+use Rattle.evaluate.proofs.EvaluatedLaws.{words_evaluated}
 use Rattle.evaluate.specs.WritingLaws.{over-at, over-over}
 use Rattle.truth.specs.declared.TruthAnswer.{TruthAnswer}
 use Rattle.truth.specs.declared.TruthAnswer.TheVariants as told
