@@ -1,5 +1,7 @@
 // What a parted pair adds to the sheet that is written and to the map: the entry that puts the reason that the search found and its denial; the
 // numbers of the entries that describe its two cells grow; and its place in the map gets a number.
+#![tactic(auto)]
+
 ghost use Rattle.std.specs.Prelude.{◌≡◌, ◌<◌, ◌+◌, ◌≤◌, length};
 ghost use Rattle.compare_entries.specs.Growing.{Roomy, side_of, Conjoins, NameFits, Names};
 ghost use Rattle.sheet_writer.specs.Writing.{PutEntry};
