@@ -1,5 +1,7 @@
 // One pair of a round: it stays where no reason parts it under the relation that the round began with, from either side that counts; else it is
 // parted, and what parts it is written.
+#![tactic(auto)]
+
 ghost use Rattle.std.specs.Prelude.{suc};
 ghost use Rattle.compare_entries.specs.Parting.{lists};
 ghost use Rattle.compare_pair.specs.Settling.{chart, basis, place_of, Undecided, Stands, Goes};
