@@ -1,5 +1,7 @@
 // Which cells a round has to look at again: a pair stays as long as no pair near it is parted, so a round searches only the pairs both of whose cells
 // are near one that lost a pair in the round before.
+#![tactic(auto)]
+
 ghost use Rattle.std.specs.Prelude.{◌≡◌, ◌≤◌};
 ghost use Rattle.search_links.specs.Hops.{Opened};
 ghost use Rattle.compare_near.specs.Near.{changed, behind, near_to, reach_of_lem};
