@@ -1,10 +1,14 @@
 // The listing program (01): reads the byte c and two books from standard input, and writes their listing to standard output.
 #![tactic(auto)]
 
+ghost use Rattle.std.specs.Prelude.{IfOk, ◌≤◌, length};
+
 use std::io::{self, Lock, Read, Write};
 
 // Reads until the room is full or the input ends, and answers how many bytes that were. What is read may come in pieces.
-fn read_full<T: Read>(input: &mut T, room: &mut [u8]) -> io::Result<usize> {
+fn read_full<T: Read>(input: &mut T, room: &mut [u8]) -> io::Result<usize>
+    ensures { IfOk result (λ n. n ≤ length room.new) }
+{
     let mut done = 0;
     while done < room.len() {
         let n = input.read(&mut room[done..])?;

@@ -14,7 +14,7 @@ use Rattle.book.specs.SeenLaws.{seen_all, hides_none}
 use Rattle.book.specs.declared.Hidden.{Hidden}
 use Rattle.book.specs.AcceptedLaws.{book_sizes}
 use Rattle.compare_laws.specs.Places.{unparted, zeros}
-use Rattle.compare_laws.specs.PlaceLaws.{among-at}
+use Rattle.compare_laws.proofs.PlaceLaws.{among-at}
 use mir.Syntax.{w8}
 use mir.Val.{Fits}
 use Rattle.compare_lists.specs.BookSetting.{sheet_version}
