@@ -15,7 +15,7 @@ FOR_C = "capi"
 OTHERS = ["open_book", "listing_text"]
 
 NAME = r"(?!(?:=|→|↦|λ|let|in)\s)[^\s:(){}\[\],;.]+"
-USE = re.compile(r"^(?:ghost )?use Rattle\.(\w+)\.specs\.([\w.-]+?)(?:\.\{(.*?)\}| as (\w+))?;?$", re.S)
+USE = re.compile(r"^(?:ghost )?use Rattle\.(\w+)\.(specs|proofs)\.([\w.-]+?)(?:\.\{(.*?)\}| as (\w+))?;?$", re.S)
 FUNCTION = re.compile(r"^ *pub (?:extern \"C\" )?fn (\w+)(.*?)^ *\{$", re.M | re.S)
 TYPE = re.compile(rf"(?:pub )?(?P<kind>record|data) (?P<name>{NAME})")
 SIGNATURE = re.compile(rf"(?P<kept>(?:abbrev|unfoldable) )?(?:pub )?(?P<names>{NAME}(?: {NAME})*) :(?: |$)")
@@ -40,9 +40,10 @@ def imports(lines):
     """What a file's use lines bring in: a name's crate, file and name there. A file brought in under a name counts as a name with no name in it."""
     names = {}
     for use in filter(None, map(USE.match, lines)):
-        crate, file, listed, alias = use.groups()
+        crate, folder, file, listed, alias = use.groups()
         if file.startswith("declared") or not (ROOT / "crates" / crate).is_dir():
             continue
+        file = file if folder == "specs" else f"{folder}/{file}"
         if alias:
             names[alias] = (crate, file, None)
         for item in filter(None, re.split(r",\s*", listed or "")):
@@ -144,6 +145,8 @@ class Closure:
                 self.reach(own, own.declared[name])
             elif name in names:
                 crate, file, meant = names[name]
+                if file.startswith("proofs/"):
+                    sys.exit(f"closure: {name} is a definition of crates/{crate}/{file}, which no promise may rest on")
                 target = self.file(crate, file)
                 meant = meant or inner
                 if meant not in target.declared:
