@@ -1,6 +1,6 @@
 -- What each turn and the way out of `settle_row` and `settle_all` shows of the definitions of `specs/`. The numbers that the code computed are
 -- variables here, with what is known of them, so that `search` finds them in a need's record.
-use mathlib.Core.Bool.{Bool, true, false, So, ◌&&◌, ◌||◌}
+use mathlib.Core.Bool.{Bool, true, So, ◌&&◌, ◌||◌}
 use mathlib.Core.List.{List}
 use mathlib.Core.Logic.{◌≢◌, ⊎_elim}
 use mathlib.Core.Path.{◌≡◌, refl, sym, ap, ap₂, ◌∙◌}

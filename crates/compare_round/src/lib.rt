@@ -1,6 +1,8 @@
 // One round of a comparison: every pair whose place of the map holds 0 is settled once, in the order of the places. A pair is not searched where it is
 // known that it stays: because no pair near it was parted (theory, `near_kept`), or, where both sides count, because a row before tells, for rows that share
 // a pair that stays are equal (theory, `RowLaws`).
+#![tactic(auto)]
+
 ghost use Rattle.std.specs.Prelude.{◌&&◌, ◌||◌, ◌≡◌, suc, ◌+◌, ◌*◌, ◌<◌, ltb, length};
 ghost use Rattle.compare_laws.specs.Places.{unparted};
 ghost use Rattle.compare_entries.specs.Parting.{lists};
