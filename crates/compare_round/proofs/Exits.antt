@@ -23,7 +23,7 @@ use Rattle.compare_entries.specs.Parting.{Lists, lists}
 use Rattle.compare_entries.specs.GrowingLaws.{onward_none}
 use Rattle.compare_pair.specs.declared.Case.{Case}
 use Rattle.compare_pair.specs.Settling.{Basis, Round, Standing, Stands, Goes, Undecided}
-use Rattle.compare_pair.specs.Laws.{goes_none, goes_more, goes_stands}
+use Rattle.compare_pair.proofs.Laws.{goes_none, goes_more, goes_stands}
 use Rattle.compare_round.specs.Twins.{twin_of, Twin}
 use Rattle.compare_round.proofs.Twins.{twin_next, twin_still}
 
