@@ -1,5 +1,7 @@
 // The rounds of a comparison, until one parts no pair. At the start of a round the relation is read from the map once, and what describes the cells is
 // kept as the round found it; at its end, which cells lost a pair, so that the next round looks only at what is near them.
+#![tactic(auto)]
+
 ghost use Rattle.std.specs.Prelude.{◌≡◌};
 ghost use Rattle.search_links.specs.Hops.{Opened};
 ghost use Rattle.compare_map.specs.Relation.{Mapped};
