@@ -1,5 +1,7 @@
 // Two accepted books compared into lent lists: the books are read into arrays once, the first entry is written, and rounds are taken until one parts no
 // pair.
+#![tactic(auto)]
+
 ghost use Rattle.std.specs.Prelude.{◌≡◌, ◌*◌, ◌≤◌, length};
 ghost use Rattle.book.specs.Book.{book_refusal};
 ghost use Rattle.compare_lists.specs.BookSetting.{sheet_version};
