@@ -9,7 +9,7 @@ use mir.Val.{Fits}
 use lib.ListN.{length, get_or}
 use Rattle.fields.specs.Fields.{Bytes}
 use Rattle.sheet.specs.Sheet.{hidden_place, count_of, entry_start, sheet_refusal, sheet_answer}
-use Rattle.sheet.specs.AcceptedLaws.{answer_accepting, answer_refusing}
+use Rattle.sheet.proofs.AcceptedLaws.{answer_accepting, answer_refusing}
 use Rattle.sheet.specs.declared.Question.{Question}
 use Rattle.sheet.specs.declared.SheetAnswer.{SheetAnswer}
 use Rattle.sheet.specs.declared.SheetAnswer.TheVariants as sheet

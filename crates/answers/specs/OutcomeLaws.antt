@@ -7,7 +7,7 @@ use Rattle.outcome.specs.OutcomeLaws.{accepted_fits, refused_fits}
 use Rattle.outcome.specs.RefusalLaws.{either}
 use Rattle.words.specs.Laws.{tally-le}
 use Rattle.sheet.specs.Sheet.{hidden_place}
-use Rattle.sheet.specs.OutcomeLaws.{sheet_refusal_most}
+use Rattle.sheet.proofs.OutcomeLaws.{sheet_refusal_most}
 use Rattle.answers.specs.Row.{most_cells, row_refusal, zero_from, row_count, row_answer, row_outcome}
 use Rattle.answers.specs.RowLaws.{row_whole}
 use Rattle.answers.specs.Pair.{pair_answer, pair_outcome}

@@ -9,9 +9,9 @@ use Rattle.std.proofs.Math.Dec.{eqb, ltb}
 use Rattle.std.proofs.Math.ListN.{get_or}
 use Rattle.fields.specs.Fields.{Bytes}
 use Rattle.sheet.specs.Entry.{truth}
-use Rattle.sheet.specs.PassedLaws.{accepted_head}
+use Rattle.sheet.proofs.PassedLaws.{accepted_head}
 use Rattle.sheet.specs.Sheet.{hidden_place, count_of, head_size, next_at, start_from, entries_of, entry_at, entry_start, sheet_refusal}
-use Rattle.sheet.specs.AcceptedLaws.{accepted_standing, entries_of-at}
+use Rattle.sheet.proofs.AcceptedLaws.{accepted_standing, entries_of-at}
 use Rattle.sheet.specs.declared.Question.{Question}
 use Rattle.answers.specs.Pair.{place_of, question_answer, place_answer, pair_answer}
 use Rattle.answers.specs.declared.PairAnswer.{PairAnswer}

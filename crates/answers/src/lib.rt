@@ -1,4 +1,6 @@
 // The readers of a map of cell pairs: a row of it as a set of right cells, and what a place of it says.
+#![tactic(auto)]
+
 ghost use Rattle.std.specs.Prelude.{◌≡◌, ◌+◌, ◌≤◌, ◌<◌, length, get_or};
 ghost use Rattle.outcome.specs.Outcome.{code};
 ghost use Rattle.words.specs.Words.{word_of};

@@ -1,4 +1,6 @@
 // Books (01, "Book bytes"): checked once, then read by parts.
+#![tactic(auto)]
+
 ghost use Rattle.std.specs.Prelude.{◌&&◌, ◌≡◌, ◌+◌, ◌-◌, ◌*◌, ◌≤◌, ◌<◌, ltb, length};
 ghost use Rattle.theory.specs.Graph.{same};
 ghost use Rattle.outcome.specs.Outcome.{code};

@@ -1,4 +1,6 @@
 // The library for C callers (include/cuhnavel.h): bytes, words, map places and numbers in, an outcome as one number out.
+#![tactic(auto)]
+
 ghost use Rattle.std.specs.Prelude.{◌≡◌};
 ghost use Rattle.outcome.specs.Outcome.{code};
 ghost use Rattle.book.specs.Book.{book_answer, book_outcome};

@@ -18,7 +18,7 @@ use Rattle.book.specs.BookGraph.{hides, seen_of, Cell}
 use Rattle.book.specs.Contents.{SameContents}
 use Rattle.book.specs.VersionLaws.{same_seen}
 use Rattle.sheet.specs.Sheet.{hidden_place, most_bound, length_of, count_of, question_of, sheet_answer}
-use Rattle.sheet.specs.PassedLaws.{accepted_head}
+use Rattle.sheet.proofs.PassedLaws.{accepted_head}
 use Rattle.sheet.specs.WrittenLaws.{Writable, written_good, written_answer, written_count, written_question}
 use Rattle.sheet.specs.declared.SheetAnswer.TheVariants.{Accepted}
 use Rattle.compare_laws.specs.Setting.{Setting}

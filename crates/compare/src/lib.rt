@@ -1,4 +1,6 @@
 // Compare (01): two books, pair by pair of their cells; of both sides, or one-way, of the left one alone (02, 2026-03).
+#![tactic(auto)]
+
 ghost use Rattle.std.specs.Prelude.{◌≡◌, ◌^◌, ◌≤◌, ◌<◌, length, false};
 ghost use Rattle.theory.specs.Bisimulation.{sides_of};
 ghost use Rattle.outcome.specs.Outcome.{code};

@@ -1,5 +1,7 @@
 // The links of a book loaded once into three lists, and sets of cells carried along them as words: the hot loops of Truth and Compare,
 // which know nothing of a book's bytes.
+#![tactic(auto)]
+
 ghost use Rattle.std.specs.Prelude.{◌≡◌, cond, ◌^◌, ◌≤◌, ◌<◌, length};
 ghost use Rattle.theory.specs.Graph.{same};
 ghost use Rattle.words.specs.Words.{bit};

@@ -16,9 +16,9 @@ use Rattle.words.specs.Words.{bit, IsLowest, IsWithout}
 use Rattle.words.specs.Laws.{bit-zero, bit_with, bit_without, word_of_is}
 use Rattle.sheet.specs.Entry.{Step, Entry, truth, negation, conjunction, disjunction, way, comparison, kind_of, first_way_lem, second_way, step_in, numbers}
 use Rattle.sheet.specs.Sheet.{entry_at, entry_start, next_at}
-use Rattle.sheet.specs.AcceptedLaws.{entry_start-zero}
+use Rattle.sheet.proofs.AcceptedLaws.{entry_start-zero}
 use Rattle.sheet.specs.Reading.{Reads, steps_of}
-use Rattle.sheet.specs.KnownLaws.{none_left, all_left, next-step}
+use Rattle.sheet.proofs.KnownLaws.{none_left, all_left, next-step}
 use Rattle.sheet.specs.declared.Steps.{Steps}
 use Rattle.edges.specs.Edges.{edges, image, Gathered, any_passes}
 use Rattle.edges.specs.Laws.{empty_at, gather_empty, passes_none, passes_no_second}

@@ -2,4 +2,3 @@ pub mod QuestionWord
 pub mod Evaluation
 pub mod WayLaws
 pub mod WritingLaws
-pub mod EvaluatedLaws

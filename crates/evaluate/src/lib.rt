@@ -1,4 +1,6 @@
 // The words of a sheet's entries, one after another, over the tables of a graph: sets of nodes as words.
+#![tactic(auto)]
+
 ghost use Rattle.std.specs.Prelude.{◌≡◌, ◌^◌, ◌≤◌, ◌<◌, length, get_or};
 ghost use Rattle.theory.specs.Search.{list};
 ghost use Rattle.sheet.specs.Entry.{kind_of, step_in, numbers};

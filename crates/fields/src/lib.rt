@@ -1,4 +1,6 @@
 // Unsigned fields of 1 to 4 bytes in a slice, most significant byte first.
+#![tactic(auto)]
+
 ghost use Rattle.std.specs.Prelude.{◌≡◌, ◌+◌, ◌^◌, ◌≤◌, ◌<◌, length};
 ghost use Rattle.fields.specs.Fields.{field, with_field};
 ghost use Rattle.fields.specs.Label.{label_width};

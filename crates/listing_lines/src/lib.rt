@@ -1,4 +1,6 @@
 // The lines of a listing, written into lent bytes.
+#![tactic(auto)]
+
 ghost use Rattle.std.specs.Prelude.{◌+◌, ◌*◌, ◌≤◌, length};
 ghost use Rattle.compare_laws.specs.Places.{unparted};
 ghost use Rattle.words.specs.Words.{tally};

@@ -1,4 +1,6 @@
 // The listing (01): from the bytes of an input to the bytes of its listing.
+#![tactic(auto)]
+
 ghost use Rattle.std.specs.Prelude.{◌≡◌, ◌≤◌, length};
 ghost use Rattle.book.specs.Book.{book_refusal};
 ghost use Rattle.sheet.specs.Sheet.{most_bound};

@@ -1,6 +1,8 @@
 // An opened book (01: "opens a checked book once and keeps its bytes and counts for reading links"): a struct that holds the lent bytes and
 // the counts n and e. Its readers go by these, and check an accepted book no second time. Each takes the struct apart and leaves the work to a
 // function on the slice and the numbers.
+#![tactic(auto)]
+
 ghost use Rattle.std.specs.Prelude.{◌≡◌, ◌≤◌, ◌<◌, length};
 ghost use Rattle.book.specs.Book.{link_start, book_answer};
 ghost use Rattle.book.specs.BookLinks.{links_part};

@@ -1,4 +1,6 @@
 // An operation's answer as one number, for callers that take numbers.
+#![tactic(auto)]
+
 ghost use Rattle.std.specs.Prelude.{◌≡◌, ◌^◌, ◌<◌};
 ghost use Rattle.outcome.specs.Outcome.{outcome, code};
 

@@ -7,10 +7,10 @@ use borrow.Author.Tests.{lt-ltb, le-ltb, eq-eqb, ne_eqb}
 use lib.ListN.{length, get_or, set, drop}
 use Rattle.sheet.specs.Entry.{Step, expressions, kind_of, first_way_lem, second_way, step_in, numbers}
 use Rattle.sheet.specs.Sheet.{entries_of, entry_at, entry_start, question_of}
-use Rattle.sheet.specs.AcceptedLaws.{length-steps, accepted_question}
+use Rattle.sheet.proofs.AcceptedLaws.{length-steps, accepted_question}
 use Rattle.sheet.specs.Reading.{HasWay, Reads, steps_of}
 use Rattle.sheet.specs.Known.{EntryKnown, EntriesFit}
-use Rattle.sheet.specs.KnownLaws.{none_left, all_left, next-step, fit_earlier}
+use Rattle.sheet.proofs.KnownLaws.{none_left, all_left, next-step, fit_earlier}
 use Rattle.sheet.specs.declared.Steps.{Steps}
 use Rattle.text.specs.Text.{decimal}
 use Rattle.question_measure.specs.Measures.{chain_cap, length_cap, measured, beside, longer, referred, step_measure, steps_measure, way_measure, plain_by_lem, ways_by, plain_measure, ways_measure, entry_measure}

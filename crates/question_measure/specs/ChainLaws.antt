@@ -8,7 +8,7 @@ use native.Mathlib.Omega.{arith}
 use Rattle.theory.specs.Expression.{NodeExpr}
 use Rattle.sheet.specs.Entry.{Step, Entry, truth, negation, conjunction, disjunction, way, comparison, named, spell_way, spell, tests, numbers}
 use Rattle.sheet.specs.Sheet.{count_of, entry_at, entry_start, question_of, sheet_refusal}
-use Rattle.sheet.specs.AcceptedLaws.{accepted_question}
+use Rattle.sheet.proofs.AcceptedLaws.{accepted_question}
 use Rattle.question_measure.specs.Text.{way_chain, chain}
 
 -- One reference more than the longest of the chains f i, of the entries i that are named; none if none is named.

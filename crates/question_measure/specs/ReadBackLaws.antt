@@ -12,7 +12,7 @@ use Rattle.theory.specs.Expression.{NodeExpr, neg, conj, disj, exists, compare, 
 use Rattle.sheet.specs.Entry.{Step, Entry, truth, negation, conjunction, disjunction, way, comparison, named, spell_way, spell, expressions, tests, numbers, Below}
 use Rattle.sheet.specs.ExpressionLaws.{below-append}
 use Rattle.sheet.specs.Sheet.{count_of, entries_of, entry_at, entry_start, question_of, sheet_refusal}
-use Rattle.sheet.specs.AcceptedLaws.{well_formed_entry, accepted_standing, accepted_question}
+use Rattle.sheet.proofs.AcceptedLaws.{well_formed_entry, accepted_standing, accepted_question}
 use Rattle.text.specs.Text.{digit, decimal}
 use Rattle.text.specs.Laws.{decimal-one, decimal-more}
 use Rattle.question_measure.specs.Text.{sign_text, or_stay, steps_text, question_text, way_text}

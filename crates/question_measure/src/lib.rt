@@ -1,5 +1,7 @@
 // How long the text of a sheet's question is, and its longest chain of references (02, request 2026-01), without writing: both are computed entry by
 // entry, from those of the entries before.
+#![tactic(auto)]
+
 ghost use Rattle.std.specs.Prelude.{◌≡◌, ◌+◌, ◌≤◌, ◌<◌, min, length, get_or};
 ghost use Rattle.sheet.specs.Entry.{kind_of, step_in, numbers};
 ghost use Rattle.sheet.specs.Sheet.{count_of, entry_at, question_of, sheet_refusal};

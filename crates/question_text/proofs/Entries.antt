@@ -8,10 +8,10 @@ use Rattle.theory.specs.Graph.{same, differ}
 use Rattle.theory.specs.Expression.{NodeExpr}
 use Rattle.sheet.specs.Entry.{Entry, truth, negation, conjunction, disjunction, way, comparison, kind_of, first_way_lem, second_way, named, spell_way, spell, numbers, Below}
 use Rattle.sheet.specs.Sheet.{entry_at}
-use Rattle.sheet.specs.AcceptedLaws.{well_formed_entry, accepted_standing, accepted_question}
+use Rattle.sheet.proofs.AcceptedLaws.{well_formed_entry, accepted_standing, accepted_question}
 use Rattle.sheet.specs.Reading.{Readable, HasNumber}
-use Rattle.sheet.specs.ReadingLaws.{readable}
-use Rattle.sheet.specs.KnownLaws.{below_at}
+use Rattle.sheet.proofs.ReadingLaws.{readable}
+use Rattle.sheet.proofs.KnownLaws.{below_at}
 use Rattle.text.specs.Text.{ascii}
 use Rattle.question_measure.specs.Text.{or_stay, steps_text, question_text, way_text}
 use Rattle.question_measure.specs.HoldsLaws.{holds_fewer}

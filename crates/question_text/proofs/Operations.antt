@@ -12,7 +12,7 @@ use Rattle.fields.specs.Runs.{PutBytes}
 use Rattle.outcome.specs.Outcome.{code}
 use Rattle.theory.specs.Expression.{NodeExpr}
 use Rattle.sheet.specs.Sheet.{count_of, question_of, sheet_refusal, sheet_answer}
-use Rattle.sheet.specs.AcceptedLaws.{answer_accepting, answer_refusing}
+use Rattle.sheet.proofs.AcceptedLaws.{answer_accepting, answer_refusing}
 use Rattle.sheet.specs.declared.SheetAnswer.{SheetAnswer}
 use Rattle.sheet.specs.declared.SheetAnswer.TheVariants as sheet
 use Rattle.question_measure.specs.Text.{text_length, chain, most_chain, most_length}

@@ -10,9 +10,9 @@ use Rattle.fields.specs.Laws.{field_lt}
 use Rattle.fields.specs.Runs.{PutBytes}
 use Rattle.fields.specs.RunLaws.{put_after, rest_fits}
 use Rattle.sheet.specs.Sheet.{entry_start}
-use Rattle.sheet.specs.PassedLaws.{accepted_head}
+use Rattle.sheet.proofs.PassedLaws.{accepted_head}
 use Rattle.sheet.specs.Known.{EntriesFit}
-use Rattle.sheet.specs.KnownLaws.{fit_readable}
+use Rattle.sheet.proofs.KnownLaws.{fit_readable}
 use Rattle.text.specs.Text.{ascii, decimal}
 use Rattle.question_measure.specs.Text.{sign_text}
 use Rattle.question_measure.specs.Holds.{Holds}

@@ -9,7 +9,7 @@ use Rattle.fields.specs.RunLaws.{put_as, put_after, piece_fits, rest_fits}
 use Rattle.sheet.specs.Entry.{kind_of, numbers}
 use Rattle.sheet.specs.Sheet.{entry_at}
 use Rattle.sheet.specs.Reading.{Readable, HasNumber}
-use Rattle.sheet.specs.ReadingLaws.{has_number}
+use Rattle.sheet.proofs.ReadingLaws.{has_number}
 use Rattle.text.specs.Text.{ascii}
 use Rattle.question_text.specs.Answer.{text_of}
 use Rattle.question_text.specs.Writing.{Started, Entered, junction_by, questions_of, between}

@@ -12,10 +12,10 @@ use Rattle.fields.specs.Runs.{PutBytes}
 use Rattle.fields.specs.RunLaws.{put_none, put_as, put_after, piece_fits, rest_fits}
 use Rattle.sheet.specs.Entry.{Step, kind_of, first_way_lem, second_way, step_in, named, spell_way, tests, Below}
 use Rattle.sheet.specs.Sheet.{step_width, step_at, steps_at, entry_at}
-use Rattle.sheet.specs.AcceptedLaws.{length-steps}
+use Rattle.sheet.proofs.AcceptedLaws.{length-steps}
 use Rattle.sheet.specs.Reading.{HasWay, HasStep, Reads, steps_of}
-use Rattle.sheet.specs.ReadingLaws.{test_below}
-use Rattle.sheet.specs.KnownLaws.{ways-below}
+use Rattle.sheet.proofs.ReadingLaws.{test_below}
+use Rattle.sheet.proofs.KnownLaws.{ways-below}
 use Rattle.sheet.specs.declared.Steps.{Steps}
 use Rattle.text.specs.Text.{ascii, decimal}
 use Rattle.question_measure.specs.Text.{sign_text, or_stay, steps_text, question_text, way_text}

@@ -6,7 +6,7 @@ use Rattle.outcome.specs.OutcomeLaws.{accepted_fits, refused_fits}
 use Rattle.outcome.specs.RefusalLaws.{either}
 use Rattle.theory.specs.Expression.{NodeExpr}
 use Rattle.sheet.specs.Sheet.{count_of, question_of, sheet_refusal}
-use Rattle.sheet.specs.OutcomeLaws.{sheet_refusal_most}
+use Rattle.sheet.proofs.OutcomeLaws.{sheet_refusal_most}
 use Rattle.question_measure.specs.Text.{text_length, chain, most_chain, most_length}
 use Rattle.question_text.specs.Answer.{question_answer, length_answer, with_room, write_answer, text_outcome}
 use Rattle.question_text.specs.Laws.{length_number}

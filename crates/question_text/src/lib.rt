@@ -1,4 +1,6 @@
 // A question of a sheet written out in full (02, request 2026-01), and the length of its text.
+#![tactic(auto)]
+
 ghost use Rattle.std.specs.Prelude.{[], ◌∷◌, ◌++◌, ◌≡◌, ◌+◌, ◌≤◌, ◌<◌, length, get_or, drop};
 ghost use Rattle.outcome.specs.Outcome.{code};
 ghost use Rattle.fields.specs.Runs.{PutBytes};

@@ -1,5 +1,7 @@
 // Why cell x of one book and cell y of the other part, in one direction: a link, or two paths, without counterpart; fewest links first.
 // Callers exchange the books for the other direction.
+#![tactic(auto)]
+
 ghost use Rattle.std.specs.Prelude.{◌+◌, ◌≤◌};
 ghost use Rattle.search_links.specs.Hops.{view_of};
 ghost use Rattle.search_links.specs.Sets.{Valued};

@@ -1,5 +1,7 @@
 // A quick decision for pairs that stay: a table with one tip a cell that covers the tips of all paths of at most c links. Where no two of its tips fail,
 // no two paths do, of whatever lengths.
+#![tactic(auto)]
+
 ghost use Rattle.std.specs.Prelude.{true, ◌≡◌, ◌<◌};
 ghost use Rattle.search_links.specs.Hops.{view_of, Ordered};
 ghost use Rattle.search_links.specs.Sets.{image_of};

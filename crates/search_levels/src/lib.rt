@@ -1,6 +1,8 @@
 // The tips of the paths of at most so many links from a cell of one book, with a cell of the other for its partner, level by level in one table. A level has
 // no tip that the levels below it cover: two paths that fail, of fewest links in all, have none. The last level, and those that are too large for the
 // table, have their tips widened to what comparisons see of them, since no path goes on from there.
+#![tactic(auto)]
+
 ghost use Rattle.std.specs.Prelude.{true, false, cond, ◌≡◌, ◌+◌, ◌≤◌, ◌<◌, length};
 ghost use Rattle.search_links.specs.Hops.{view_of, Ordered};
 ghost use Rattle.search_links.specs.Sets.{Valued};

@@ -1,5 +1,7 @@
 // A book's links by their numbers, as the search for a reason reaches them: where the links out of a cell begin, and sets of cells
 // carried along them as words. Nothing here knows a book's bytes: `edges` loads them.
+#![tactic(auto)]
+
 ghost use Rattle.std.specs.Prelude.{◌≡◌, ◌≤◌, ◌<◌, get_or};
 ghost use Rattle.search_links.specs.Hops.{view_of, hops_of, lead, Smaller, Starts, Opened, Ordered, LeastLabel};
 ghost use Rattle.search_links.specs.Sets.{reached, RowBy, leads_to, spread, image_of, row_at, Paired, Valued, seen_as};

@@ -1,5 +1,7 @@
 // The search for two paths without counterpart, in one direction: from cell x of the first book, with cell y of the other for its partner.
 // Whether there are any is decided over classes of paths that no test of the search can tell apart; the first two are then found link by link.
+#![tactic(auto)]
+
 ghost use Rattle.std.specs.Prelude.{true, false, ◌≡◌, ◌+◌, ◌^◌, ◌≤◌, ◌<◌};
 ghost use Rattle.search_links.specs.Hops.{view_of};
 ghost use Rattle.search_links.specs.Sets.{Valued};

@@ -1,5 +1,7 @@
 // Paths from a cell of one book, each with the paths of the other book that are alike to it, by their tips, in tables: where they lead by one
 // link more.
+#![tactic(auto)]
+
 ghost use Rattle.std.specs.Prelude.{◌≡◌, ◌+◌, ◌≤◌, ◌<◌, length};
 ghost use Rattle.search_links.specs.Hops.{view_of, Ordered, every_label};
 ghost use Rattle.search_steps.specs.Paths.{step_word};

@@ -1,6 +1,8 @@
 // Tables of classes of tips. A tip (x, w) is where a path of one book ends, cell x, and the set w of the cells where the paths of the other book
 // alike to it end. A table of n classes is two lists: class e has the tips of the cells of lefts[e] with the set rights[e]. Of tips of one cell
 // only those with the smallest sets are kept: whatever fails with a set fails with each set inside of it.
+#![tactic(auto)]
+
 ghost use Rattle.std.specs.Prelude.{◌≤◌, ◌<◌};
 ghost use Rattle.search_tables.specs.Tips.{TableRoom, Rest, Rowmates, ClassPlace, Joined, Narrowed, Put, Grew};
 

@@ -14,10 +14,10 @@ use Rattle.outcome.specs.Refusals.{first_of}
 use Rattle.sheet.specs.Sheet.{length_of, bound_of, count_of, number_at, step_at, steps_at, entry_at, next_at, entry_start, head_refusal, step_counts, numbers_refusal, body_refusal, kind_refusal, entry_refusal, entries_refusal, sheet_refusal, sheet_answer, sheet_outcome, step_width, version_of, head_size, most_version, most_bound, most_entries, most_kind}
 use Rattle.fields.specs.Fields.{field}
 use Rattle.fields.specs.Label.{label_width}
-use Rattle.sheet.specs.AcceptedLaws.{entry_start-next}
+use Rattle.sheet.proofs.AcceptedLaws.{entry_start-next}
 use Rattle.sheet.specs.Reading.{Readable, HasNumber, HasWay, HasStep, Reads, steps_of, first_place, second_place}
-use Rattle.sheet.specs.ReadingLaws.{readable, kind_read, number_read, first_reads, second_two, second_reads, steps_in}
-use Rattle.sheet.specs.PassedLaws.{kind_passed, standing, headed, accepted_head}
+use Rattle.sheet.proofs.ReadingLaws.{readable, kind_read, number_read, first_reads, second_two, second_reads, steps_in}
+use Rattle.sheet.proofs.PassedLaws.{kind_passed, standing, headed, accepted_head}
 use Rattle.sheet.proofs.Bodies.{numbers-append, tests-append, steps-add, body_true, body_not, body_two, body_way, body_comparison, body_plain}
 use Rattle.outcome.specs.Outcome.{outcome, code}
 use Rattle.sheet.specs.declared.Steps.{Steps}

@@ -1,3 +1,8 @@
 mod Bodies
 pub mod Laws
 mod Vectors
+pub mod PassedLaws
+pub mod AcceptedLaws
+pub mod ReadingLaws
+pub mod KnownLaws
+pub mod OutcomeLaws

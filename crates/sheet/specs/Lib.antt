@@ -2,11 +2,7 @@ pub mod Entry
 pub mod ExpressionLaws
 pub mod Sheet
 pub mod Encoding
-pub mod PassedLaws
-pub mod AcceptedLaws
-pub mod OutcomeLaws
+pub mod Passed
 pub mod Reading
-pub mod ReadingLaws
 pub mod Known
-pub mod KnownLaws
 pub mod WrittenLaws

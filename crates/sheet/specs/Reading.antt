@@ -2,7 +2,7 @@
 use Rattle.std.specs.Prelude.{List, ◌≡◌, ℕ, ◌+◌, ◌*◌, ◌≤◌, ◌<◌, length, get_or}
 use Rattle.sheet.specs.Entry.{Step, kind_of, numbers}
 use Rattle.sheet.specs.Sheet.{version_of, head_size, step_width, steps_at, first_start, first_count, second_start, second_count, entry_at}
-use Rattle.sheet.specs.PassedLaws.{EntryPassed}
+use Rattle.sheet.specs.Passed.{EntryPassed}
 use Rattle.sheet.specs.declared.Steps.{Steps}
 
 -- An entry that passes the check starts at `at`.

@@ -1,4 +1,6 @@
 // A sheet of questions: checked once, then read entry by entry.
+#![tactic(auto)]
+
 ghost use Rattle.std.specs.Prelude.{◌≡◌, [], ◌∷◌, ◌+◌, ◌*◌, ◌≤◌, ◌<◌, length, get_or};
 ghost use Rattle.outcome.specs.Outcome.{code};
 ghost use Rattle.sheet.specs.Entry.{kind_of, first_way_lem, second_way, step_in, tests, numbers};

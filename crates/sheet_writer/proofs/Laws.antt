@@ -13,7 +13,7 @@ use Rattle.fields.specs.Laws.{length-bytes_of, sets_append}
 use Rattle.sheet.specs.Entry.{Step, entry_with, kind_of, truth, negation, conjunction, disjunction, way}
 use Rattle.sheet.specs.Sheet.{number_width, step_width}
 use Rattle.sheet.specs.Encoding.{encode_steps, body_of, encode_entry, header}
-use Rattle.sheet.specs.AcceptedLaws.{kind_cases}
+use Rattle.sheet.proofs.AcceptedLaws.{kind_cases}
 use Rattle.sheet.specs.WrittenLaws.{size_of, length-encode_steps}
 use Rattle.sheet_writer.specs.Writing.{step, steps_from, steps_given, PutEntry, StepsFit, WaysFit, PutPlain, PutWays}
 use Rattle.sheet_writer.specs.WritingLaws.{put_entry}

@@ -1,4 +1,6 @@
 // Writing a sheet into lent room: its entries one after another, each at the byte where the one before it ended, and its header last.
+#![tactic(auto)]
+
 ghost use Rattle.std.specs.Prelude.{[], ◌∷◌, ◌≡◌, ◌+◌, ◌*◌, ◌^◌, ◌<◌, ◌≤◌, length};
 ghost use Rattle.std.proofs.lemmas.List.Edits.{sets};
 ghost use Rattle.fields.specs.Label.{label_width};

@@ -1,4 +1,6 @@
 // Text written into lent bytes, one piece behind another.
+#![tactic(auto)]
+
 ghost use Rattle.std.specs.Prelude.{[], ◌∷◌, ◌≡◌, ◌+◌, ◌/◌, ◌%◌, ◌≤◌, ◌<◌, length};
 ghost use Rattle.fields.specs.Runs.{PutBytes};
 ghost use Rattle.text.specs.Text.{digit, decimal, labelled, ending, most_digits, Wrote};

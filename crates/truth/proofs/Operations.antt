@@ -19,8 +19,8 @@ use Rattle.book.specs.AcceptedLaws.{book_sizes}
 use Rattle.book.specs.SeenLaws.{seen_graph}
 use Rattle.book.specs.declared.Hidden.{Hidden}
 use Rattle.sheet.specs.Sheet.{count_of, question_of, sheet_refusal, sheet_answer}
-use Rattle.sheet.specs.PassedLaws.{accepted_head}
-use Rattle.sheet.specs.AcceptedLaws.{answer_accepting, answer_refusing}
+use Rattle.sheet.proofs.PassedLaws.{accepted_head}
+use Rattle.sheet.proofs.AcceptedLaws.{answer_accepting, answer_refusing}
 use Rattle.sheet.specs.declared.SheetAnswer.{SheetAnswer}
 use Rattle.sheet.specs.declared.SheetAnswer.TheVariants.{Accepted, Refused}
 use Rattle.edges.specs.Edges.{Rows}
@@ -32,7 +32,7 @@ use Rattle.edge_groups.specs.Laws.{inside_same}
 use Rattle.sheet.specs.Known.{EntriesFit}
 use Rattle.evaluate.specs.QuestionWord.{question_word}
 use Rattle.evaluate.specs.Evaluation.{tables, rows_for, evaluated, TablesOf}
-use Rattle.evaluate.specs.EvaluatedLaws.{words_evaluated}
+use Rattle.evaluate.proofs.EvaluatedLaws.{words_evaluated}
 use Rattle.evaluate.specs.WritingLaws.{over-at, over-over}
 use Rattle.truth.specs.declared.TruthAnswer.{TruthAnswer}
 use Rattle.truth.specs.declared.TruthAnswer.TheVariants as told

@@ -9,7 +9,7 @@ use Rattle.book.specs.BookGraph.{hides_beyond}
 use Rattle.book.specs.declared.Hidden.{Hidden}
 use Rattle.book.specs.OutcomeLaws.{book_refusal_most}
 use Rattle.sheet.specs.Sheet.{count_of, sheet_refusal}
-use Rattle.sheet.specs.OutcomeLaws.{sheet_refusal_most}
+use Rattle.sheet.proofs.OutcomeLaws.{sheet_refusal_most}
 use Rattle.truth.specs.declared.TruthAnswer.{TruthAnswer}
 use Rattle.truth.specs.declared.ClaimAnswer.{ClaimAnswer}
 use Rattle.truth.specs.Truth.{truth_answer, truth_outcome, parts, claim_answer, claim_outcome}

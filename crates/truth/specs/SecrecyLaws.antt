@@ -2,8 +2,7 @@
 -- cells and links touching them"; then "Truth's words for one sheet are alike", and so is all that Claim says.
 use Rattle.std.specs.Prelude.{List, ◌++◌, ◌≡◌, ℕ, length}
 use Rattle.std.proofs.Math.Path.{refl, ap}
-use Rattle.std.proofs.Common.{sym, ◌∙◌}
-use Rattle.std.proofs.Math.ListN.{drop}
+use Rattle.std.proofs.Common.{sym, ap₂, ◌∙◌}
 use Rattle.theory.specs.Search.{list}
 use Rattle.theory.specs.Graph.{Graph}
 use Rattle.book.specs.Book.{book_refusal}
@@ -27,7 +26,7 @@ module _ (b b' : List ℕ) (h : ℕ) (p : book_refusal b ≡ 0) (p' : book_refus
 
   words_alike : (s : List ℕ) (k : ℕ) (ws : List ℕ) → first_words b h s k ws ≡ first_words b' h s k ws
   unfolding first_words
-  words_alike s k ws = ap (λ (g : Graph). list k (λ i. truth_word g (question_of s i)) ++ drop k ws) (seen_alike h b b' p p' d)
+  words_alike s k ws = ap₂ ◌++◌ (ap (λ (g : Graph). list k (λ i. truth_word g (question_of s i))) (seen_alike h b b' p p' d)) refl
 
   answer_alike : (s : List ℕ) (m : ℕ) → truth_answer b h s m ≡ truth_answer b' h s m
   unfolding truth_answer

@@ -1,4 +1,6 @@
 // Truth and Claim (01): where the questions of a sheet are true.
+#![tactic(auto)]
+
 ghost use Rattle.std.specs.Prelude.{◌≡◌, not, ◌&&◌, ◌<◌, min, length};
 ghost use Rattle.theory.specs.Meaning.{holds};
 ghost use Rattle.outcome.specs.Outcome.{code};

@@ -1,4 +1,6 @@
 // Sets of up to 64 cells, as words: cell i is in the set where bit i is set.
+#![tactic(auto)]
+
 ghost use Rattle.std.specs.Prelude.{◌≡◌, true, ◌↔◌, ◌-◌, ◌^◌, ◌≤◌, ◌<◌};
 ghost use Rattle.std.specs.Int.Bits.{bit_and, bit_or};
 ghost use Rattle.words.specs.Words.{bit, IsCount, IsLowest, IsWithout, Inside, IsMinus};

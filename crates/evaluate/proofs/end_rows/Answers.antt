@@ -1,7 +1,7 @@
 -- `evaluate::end_rows` meets its contract. The invariant: the rows are those of the steps from `left` on.
 use native.Mathlib.Omega.{arith}
 use borrow.Author.Rules.{rules}
-use Rattle.sheet.specs.KnownLaws.{has-step}
+use Rattle.sheet.proofs.KnownLaws.{has-step}
 use Rattle.evaluate.proofs.Laws.{rows_start, rows_next, rows_none, rows_end}
 use Rattle.evaluate.proofs.end_rows.Goals as goal
 

@@ -1,7 +1,7 @@
 -- `evaluate::evaluate` meets its contract. The invariant: what is written from here on is what is written from the start on, and entry k starts at `at`.
 use native.Mathlib.Omega.{arith}
 use borrow.Author.Rules.{rules}
-use Rattle.sheet.specs.KnownLaws.{fit_first, fit_known, fit_readable, start_next}
+use Rattle.sheet.proofs.KnownLaws.{fit_first, fit_known, fit_readable, start_next}
 use Rattle.evaluate.proofs.Laws.{evaluate_start, evaluate_next, evaluate_plain, evaluate_long, evaluate_end}
 use Rattle.evaluate.proofs.evaluate.Goals as goal
 use Rattle.evaluate.proofs.evaluate.Goals.{then-kind-lt-KIND_WAY, else-kind-lt-KIND_WAY}

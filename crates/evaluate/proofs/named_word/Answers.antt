@@ -1,5 +1,5 @@
 -- `evaluate::named_word` meets its contract.
-use Rattle.sheet.specs.KnownLaws.{number_known}
+use Rattle.sheet.proofs.KnownLaws.{number_known}
 use Rattle.evaluate.proofs.Laws.{read_at}
 use Rattle.evaluate.proofs.named_word.Goals as goal
 

@@ -1,6 +1,6 @@
 -- `evaluate::pair_word` meets its contract.
 use borrow.Author.Rules.{rules}
-use Rattle.sheet.specs.KnownLaws.{first_known, second_known}
+use Rattle.sheet.proofs.KnownLaws.{first_known, second_known}
 use Rattle.evaluate.proofs.Laws.{no_first, no_second, pair_returned}
 use Rattle.evaluate.proofs.pair_word.Goals as goal
 

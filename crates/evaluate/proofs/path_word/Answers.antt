@@ -1,6 +1,6 @@
 -- `evaluate::path_word` meets its contract. A return for each kind.
 use borrow.Author.Rules.{rules}
-use Rattle.sheet.specs.KnownLaws.{first_known}
+use Rattle.sheet.proofs.KnownLaws.{first_known}
 use Rattle.evaluate.proofs.Laws.{entry_way, entry_same, entry_differ}
 use Rattle.evaluate.proofs.path_word.Goals as goal
 

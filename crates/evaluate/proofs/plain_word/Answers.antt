@@ -1,6 +1,6 @@
 -- `evaluate::plain_word` meets its contract. A return for each kind.
 use borrow.Author.Rules.{rules}
-use Rattle.sheet.specs.KnownLaws.{first_number, second_number}
+use Rattle.sheet.proofs.KnownLaws.{first_number, second_number}
 use Rattle.evaluate.proofs.Laws.{plain_true, plain_not, plain_and, plain_or}
 use Rattle.evaluate.proofs.plain_word.Goals as goal
 

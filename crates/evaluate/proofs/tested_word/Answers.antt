@@ -1,5 +1,5 @@
 -- `evaluate::tested_word` meets its contract.
-use Rattle.sheet.specs.KnownLaws.{has-step, test_known}
+use Rattle.sheet.proofs.KnownLaws.{has-step, test_known}
 use Rattle.evaluate.proofs.Laws.{read_at}
 use Rattle.evaluate.proofs.tested_word.Goals as goal
 

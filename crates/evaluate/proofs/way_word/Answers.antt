@@ -2,7 +2,7 @@
 use native.Mathlib.Omega.{arith}
 use borrow.Author.Rules.{rules}
 use Rattle.edges.specs.Laws.{held_turned}
-use Rattle.sheet.specs.KnownLaws.{has-step}
+use Rattle.sheet.proofs.KnownLaws.{has-step}
 use Rattle.evaluate.proofs.Laws.{way_start, way_next, way_end}
 use Rattle.evaluate.proofs.way_word.Goals as goal
 

@@ -1,7 +1,7 @@
 -- `question_measure::list_measures` meets its contract.
 use native.Mathlib.Omega.{arith}
 use borrow.Author.Rules.{rules}
-use Rattle.sheet.specs.KnownLaws.{fit_first, fit_readable, fit_known, start_next}
+use Rattle.sheet.proofs.KnownLaws.{fit_first, fit_readable, fit_known, start_next}
 use Rattle.question_measure.proofs.Exits.{measured_none, measured-next, measured-end}
 use Rattle.question_measure.proofs.list_measures.Goals as goal
 

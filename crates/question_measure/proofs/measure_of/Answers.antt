@@ -1,6 +1,6 @@
 -- `question_measure::measure_of` meets its contract.
 use borrow.Author.Rules.{rules}
-use Rattle.sheet.specs.KnownLaws.{entry_few, entries_fit}
+use Rattle.sheet.proofs.KnownLaws.{entry_few, entries_fit}
 use Rattle.question_measure.proofs.Exits.{measured_last}
 use Rattle.question_measure.proofs.measure_of.Goals as goal
 

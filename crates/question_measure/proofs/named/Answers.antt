@@ -1,6 +1,6 @@
 -- `question_measure::named` meets its contract.
 use borrow.Author.Rules.{rules}
-use Rattle.sheet.specs.KnownLaws.{number_known}
+use Rattle.sheet.proofs.KnownLaws.{number_known}
 use Rattle.question_measure.proofs.Exits.{named-made}
 use Rattle.question_measure.proofs.named.Goals as goal
 

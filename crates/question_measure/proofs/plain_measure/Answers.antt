@@ -1,6 +1,6 @@
 -- `question_measure::plain_measure` meets its contract.
 use borrow.Author.Rules.{rules}
-use Rattle.sheet.specs.KnownLaws.{first_number, second_number}
+use Rattle.sheet.proofs.KnownLaws.{first_number, second_number}
 use Rattle.question_measure.proofs.Exits.{plain_true, plain_not, plain_two}
 use Rattle.question_measure.proofs.plain_measure.Goals as goal
 

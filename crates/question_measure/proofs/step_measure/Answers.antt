@@ -1,6 +1,6 @@
 -- `question_measure::step_measure` meets its contract.
 use borrow.Author.Rules.{rules}
-use Rattle.sheet.specs.KnownLaws.{has-step, test_known}
+use Rattle.sheet.proofs.KnownLaws.{has-step, test_known}
 use Rattle.question_measure.proofs.Exits.{step-made}
 use Rattle.question_measure.proofs.step_measure.Goals as goal
 

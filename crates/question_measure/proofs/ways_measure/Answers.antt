@@ -1,6 +1,6 @@
 -- `question_measure::ways_measure` meets its contract.
 use borrow.Author.Rules.{rules}
-use Rattle.sheet.specs.KnownLaws.{first_known, second_known}
+use Rattle.sheet.proofs.KnownLaws.{first_known, second_known}
 use Rattle.question_measure.proofs.Exits.{has_second, ways-one, ways_same, ways_differ}
 use Rattle.question_measure.proofs.ways_measure.Goals as goal
 

@@ -1,7 +1,7 @@
 -- `question_text::list_starts` meets its contract.
 use native.Mathlib.Omega.{arith}
 use borrow.Author.Rules.{rules}
-use Rattle.sheet.specs.KnownLaws.{fit_first, fit_readable, start_next}
+use Rattle.sheet.proofs.KnownLaws.{fit_first, fit_readable, start_next}
 use Rattle.question_measure.specs.HoldsLaws.{holds_none}
 use Rattle.question_text.proofs.Pieces.{start_small, starts_next, starts_end}
 use Rattle.question_text.proofs.list_starts.Goals as goal

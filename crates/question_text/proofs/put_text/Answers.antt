@@ -1,6 +1,6 @@
 -- `question_text::put_text` meets its contract.
 use native.Mathlib.Omega.{arith}
-use Rattle.sheet.specs.KnownLaws.{entry_few, entries_fit}
+use Rattle.sheet.proofs.KnownLaws.{entry_few, entries_fit}
 use Rattle.question_text.proofs.Operations.{text_put}
 use Rattle.question_text.proofs.put_text.Goals as goal
 

@@ -1,12 +1,12 @@
 -- `search::by_lengths` meets its contract. The invariant: the lengths passed are clear.
 use native.Mathlib.Omega.{arith}
 use borrow.Author.Rules.{rules}
-use mathlib.Core.Logic.{⊎_elim}
 use Rattle.search.proofs.Ranges.{asked, settled_at, lengths_start, lengths-next, lengths-end, lengths_found}
 use Rattle.search.proofs.by_lengths.Goals as goal
+use Rattle.search.proofs.by_lengths.Goals.{then-c-s, else-c-s}
 
 pub loop-i-init : goal.loop-i-init
-loop-i-init c = ⊎_elim (λ w. (search rules, omega arith, omega arith, search rules, search rules, search rules, search rules, search rules, omega arith, omega arith, lengths_start _ _ _ _ _ _ _ _ _ _ (omega arith))) (λ w. (search rules, omega arith, omega arith, search rules, search rules, search rules, search rules, search rules, omega arith, omega arith, lengths_start _ _ _ _ _ _ _ _ _ _ (omega arith))) c.if-c-s.branch
+loop-i-init c = elim c.if-c-s.branch [ then-c-s w ↦ (search rules, omega arith, omega arith, search rules, search rules, search rules, search rules, search rules, omega arith, omega arith, lengths_start _ _ _ _ _ _ _ _ _ _ (omega arith)) | else-c-s w ↦ (search rules, omega arith, omega arith, search rules, search rules, search rules, search rules, search rules, omega arith, omega arith, lengths_start _ _ _ _ _ _ _ _ _ _ (omega arith)) ]
 
 pub pair_at-r-requires : goal.pair_at-r-requires
 pair_at-r-requires c =

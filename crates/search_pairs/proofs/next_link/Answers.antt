@@ -1,6 +1,5 @@
 -- `search_pairs::next_link` meets its contract. The invariant: no link before k leads on.
 use native.Mathlib.Omega.{arith}
-use mathlib.Core.Bool.{true}
 use Rattle.search_links.specs.Laws.{start_few, until_few, link_low}
 use Rattle.search_pairs.proofs.Loops.{links_start, links_next, links_found, links_end}
 use borrow.Author.Rules.{rules}

@@ -1,6 +1,5 @@
 -- `search_pairs::two_tips` meets its contract. The invariants: no classes passed clash.
 use native.Mathlib.Omega.{arith}
-use mathlib.Core.Bool.{false}
 use mathlib.Core.Path.{refl}
 use Rattle.search_pairs.proofs.Clashes.{rows_start, row_start, rows_next, row_next, met_some, met_none}
 use borrow.Author.Rules.{rules}
@@ -11,14 +10,6 @@ search-init c = (search rules, search rules, search rules, search rules, refl, o
 
 pub loop-q-init : goal.loop-q-init
 loop-q-init c = (search rules, search rules, search rules, search rules, search rules, search rules, omega arith, c.asks-same.ensures, c.asks-differ.ensures, search rules, search row_start)
-
-element-copy-out-unmatched :
-    tie.Need-element-copy-out-unmatched invariant-loop decreases-loop invariant-search decreases-search
-element-copy-out-unmatched c = search rules
-
-element-copy-out-unmatched-2 :
-    tie.Need-element-copy-out-unmatched-2 invariant-loop decreases-loop invariant-search decreases-search
-element-copy-out-unmatched-2 c = search rules
 
 pub loop-q-preserved : goal.loop-q-preserved
 loop-q-preserved c = (search rules, search rules, search rules, search rules, c.if-found.false, search rules, omega arith, search rules, search rules, search rules, row_next _ _ _ _ _ _ _ _ _ _ c.loop-q.invariant.7 c.loop-q.invariant.8 _ c.unmatched-found.ensures c.if-found.false c.loop-q.invariant.10)

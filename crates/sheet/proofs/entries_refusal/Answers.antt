@@ -1,7 +1,7 @@
 -- `sheet::entries_refusal` meets its contract: the loop keeps the refusal of the entries still to come equal to the whole.
 use native.Mathlib.Omega.{arith}
 use borrow.Author.Rules.{rules}
-use Rattle.sheet.specs.ReadingLaws.{readable_passed}
+use Rattle.sheet.proofs.ReadingLaws.{readable_passed}
 use Rattle.sheet.proofs.Laws.{entries_start, entries_over, entries_good, entries_stop, entries_next, entries_inside}
 use Rattle.sheet.proofs.entries_refusal.Goals as goal
 

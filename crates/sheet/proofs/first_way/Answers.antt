@@ -1,5 +1,5 @@
 -- `sheet::first_way` meets its contract: its steps stand behind the step counts.
-use Rattle.sheet.specs.ReadingLaws.{first_inside}
+use Rattle.sheet.proofs.ReadingLaws.{first_inside}
 use Rattle.sheet.proofs.Laws.{first_of_way, first_of_comparison}
 use Rattle.sheet.proofs.first_way.Goals as goal
 

@@ -1,6 +1,6 @@
 -- `sheet::number` meets its contract: numbers stand one after another behind the kind byte.
 use native.Mathlib.Omega.{arith}
-use Rattle.sheet.specs.ReadingLaws.{number_inside}
+use Rattle.sheet.proofs.ReadingLaws.{number_inside}
 use Rattle.sheet.proofs.Laws.{number_returned}
 use Rattle.sheet.proofs.number.Goals as goal
 

@@ -1,6 +1,6 @@
 -- `sheet::second_way` meets its contract: its steps stand behind the first way's.
 use native.Mathlib.Omega.{arith}
-use Rattle.sheet.specs.ReadingLaws.{second_inside}
+use Rattle.sheet.proofs.ReadingLaws.{second_inside}
 use Rattle.sheet.proofs.Laws.{second_of_comparison}
 use Rattle.sheet.proofs.second_way.Goals as goal
 

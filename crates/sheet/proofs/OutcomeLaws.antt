@@ -6,7 +6,7 @@ use Rattle.outcome.specs.OutcomeLaws.{accepted_fits, refused_fits}
 use Rattle.outcome.specs.RefusalLaws.{either, first_most}
 use Rattle.sheet.specs.Entry.{numbers}
 use Rattle.sheet.specs.Sheet.{length_of, version_of, bound_of, count_of, head_size, most_version, most_bound, most_entries, most_kind, step_counts, entry_of, next_at, head_refusal, too_large, required, numbers_refusal, body_refusal, kind_refusal, entry_refusal, entries_refusal, sheet_refusal, sheet_answer, sheet_outcome}
-use Rattle.sheet.specs.PassedLaws.{accepted_head}
+use Rattle.sheet.proofs.PassedLaws.{accepted_head}
 
 -- The refusals of a sheet are 1 to 3 and 8 to 14.
 abbrev Few : ℕ → Type 0

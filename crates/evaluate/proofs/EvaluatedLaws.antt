@@ -18,7 +18,7 @@ use Rattle.words.specs.Words.{word_of}
 use Rattle.words.specs.Laws.{word_of_is, word_of_ext, word_of-lt, word_of-among, bit-word_of-lt, bit-pow, bit-xor, and-word_of, or-word_of}
 use Rattle.sheet.specs.Entry.{Step, Entry, truth, negation, conjunction, disjunction, way, comparison, first_way_lem, second_way, named, spell_way, spell, expressions, tests, numbers, Below}
 use Rattle.sheet.specs.Sheet.{count_of, entries_of, entry_at, entry_start, sheet_refusal}
-use Rattle.sheet.specs.AcceptedLaws.{well_formed_entry, entry_start-zero, entry_start-next, accepted_standing, accepted_question}
+use Rattle.sheet.proofs.AcceptedLaws.{well_formed_entry, entry_start-zero, entry_start-next, accepted_standing, accepted_question}
 use Rattle.sheet.specs.ExpressionLaws.{below-append}
 use Rattle.edges.specs.Edges.{Rows}
 use Rattle.edges.specs.Laws.{preimage_is, gather_is, any-passes_is}

@@ -12,7 +12,8 @@ use Rattle.sheet.specs.Entry.{truth, entry_with, kind_of, numbers, Short, Below,
 use Rattle.sheet.specs.ExpressionLaws.{expression_within, expression_is}
 use Rattle.sheet.specs.Sheet.{version_of, bound_of, count_of, head_size, most_kind, step_width, steps_at, entry_of, entry_in, entry_at, next_at, entries_at, start_from, entries_of, entry_start, question_of, too_large, numbers_refusal, entry_refusal, entries_refusal, sheet_refusal, sheet_answer}
 use Rattle.outcome.specs.RefusalLaws.{first-zero}
-use Rattle.sheet.specs.PassedLaws.{EntryPassed, standing, accepted-entries}
+use Rattle.sheet.specs.Passed.{EntryPassed}
+use Rattle.sheet.proofs.PassedLaws.{standing, accepted-entries}
 use Rattle.sheet.specs.declared.SheetAnswer.TheVariants.{Accepted, Refused}
 
 -- ---- an entry that stands is well-formed

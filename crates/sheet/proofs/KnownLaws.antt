@@ -4,10 +4,10 @@ use Rattle.std.proofs.Common.{sym, ap, ◌∙◌, not-suc-le-zero, arith, drop_o
 use Rattle.sheet.specs.Entry.{Step, Entry, truth, negation, conjunction, disjunction, way, comparison, kind_of, first_way_lem, second_way, step_in, tests, numbers, Below}
 use Rattle.sheet.specs.ExpressionLaws.{below-append}
 use Rattle.sheet.specs.Sheet.{count_of, entry_at, entry_start, next_at, most_entries, sheet_refusal}
-use Rattle.sheet.specs.PassedLaws.{accepted_head}
-use Rattle.sheet.specs.AcceptedLaws.{length-steps, well_formed_entry, entry_start-next, accepted_standing}
+use Rattle.sheet.proofs.PassedLaws.{accepted_head}
+use Rattle.sheet.proofs.AcceptedLaws.{length-steps, well_formed_entry, entry_start-next, accepted_standing}
 use Rattle.sheet.specs.Reading.{Readable, HasNumber, HasStep, Reads, steps_of}
-use Rattle.sheet.specs.ReadingLaws.{readable, has_number, test_below}
+use Rattle.sheet.proofs.ReadingLaws.{readable, has_number, test_below}
 use Rattle.sheet.specs.Known.{WayKnown, EntryKnown, EntriesFit}
 use Rattle.sheet.specs.declared.Steps.{Steps}
 

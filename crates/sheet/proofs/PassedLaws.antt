@@ -1,22 +1,13 @@
 -- What the check passes: a header, a body and an entry that are not refused, and an accepted sheet's parts.
-use Rattle.std.specs.Prelude.{Bool, false, not, ◌&&◌, List, ◌≡◌, refl, ℕ, ◌+◌, ◌-◌, ◌≤◌, ◌<◌, eqb, ltb, leb, length, get_or}
+use Rattle.std.specs.Prelude.{Bool, false, not, ◌&&◌, List, ◌≡◌, refl, ℕ, ◌+◌, ◌-◌, ◌≤◌, eqb, ltb, leb, length, get_or}
 use Rattle.std.proofs.Common.{◌∙◌, arith, eq-eqb, ltb-false, leb-false, eqb-true}
 use Rattle.std.proofs.lemmas.Bool.{eqb-false, not-false}
 use Rattle.outcome.specs.RefusalLaws.{first-zero, passed, passed-not}
-use Rattle.sheet.specs.Entry.{numbers}
-use Rattle.sheet.specs.Sheet.{length_of, version_of, bound_of, count_of, head_size, most_version, most_bound, most_entries, most_kind, step_counts, entry_of, head_refusal, too_large, required, numbers_refusal, body_refusal, kind_refusal, entry_refusal, entries_refusal, sheet_refusal}
+use Rattle.sheet.specs.Sheet.{length_of, version_of, bound_of, count_of, head_size, most_version, most_bound, most_entries, most_kind, step_counts, head_refusal, too_large, required, body_refusal, kind_refusal, entry_refusal, entries_refusal, sheet_refusal}
+use Rattle.sheet.specs.Passed.{Headed, Sized, EntryPassed}
 
 positive : (q : ℕ) → (q ≡ 0 → ⊥) → 1 ≤ q
 positive q f = omega arith
-
--- A header that is not refused.
-pub record Headed (s : List ℕ) : Type 0 where
-  pub eight : head_size ≤ length s
-  pub whole : length_of s ≡ length s
-  pub version : (1 ≤ version_of s) × (version_of s ≤ most_version)
-  pub bounded : bound_of s ≤ most_bound
-  pub some : 1 ≤ count_of s
-  pub most : count_of s ≤ most_entries
 
 pub headed : (s : List ℕ) → head_refusal s ≡ 0 → Headed s
 unfolding head_refusal
@@ -38,12 +29,6 @@ headed s h =
       most = ltb-false _ _ g.0;
     }
 
--- A body that is not refused.
-pub record Sized (v : ℕ) (s : List ℕ) (c n kind at size : ℕ) : Type 0 where
-  pub small : too_large v c kind s at ≡ false
-  pub exact : size ≡ required v kind s at
-  pub earlier : numbers_refusal n (numbers (entry_of v kind s at)) ≡ 0
-
 sized : (v : ℕ) (s : List ℕ) (c n kind at size : ℕ) → body_refusal v s c n kind at size ≡ 0 → Sized v s c n kind at size
 unfolding body_refusal
 sized v s c n kind at size h =
@@ -51,14 +36,6 @@ sized v s c n kind at size h =
     let b = passed (too_large v c kind s at) 10 a.1 in
     let d = passed-not (eqb size (required v kind s at)) 13 b.1 in
     record { small = b.0; exact = eqb-true _ _ d.0; earlier = d.1 }
-
--- An entry n that starts at `at` and is not refused.
-pub record EntryPassed (v : ℕ) (s : List ℕ) (c n at : ℕ) : Type 0 where
-  pub present : 1 ≤ get_or s at 0
-  pub inside : at + get_or s at 0 < length s
-  pub known : get_or s (at + 1) 0 ≤ most_kind
-  pub first : n ≡ 0 → get_or s (at + 1) 0 ≡ 0
-  pub body : Sized v s c n (get_or s (at + 1) 0) (at + 2) (get_or s at 0 - 1)
 
 pub kind_passed : (n kind : ℕ) → kind_refusal n kind ≡ 0 → (kind ≤ most_kind) × (n ≡ 0 → kind ≡ 0)
 unfolding kind_refusal

@@ -7,8 +7,8 @@ use Rattle.std.proofs.Math.ListN.{length, get_or}
 use Rattle.sheet.specs.Entry.{Step, entry_with, kind_of, first_way_lem, second_way, step_in, tests, numbers, Below}
 use Rattle.sheet.specs.ExpressionLaws.{numbers_of_kind}
 use Rattle.sheet.specs.Sheet.{version_of, head_size, count_of, number_width, step_width, number_at, step_at, steps_at, step_counts, first_start, first_count, second_start, second_count, entry_of, entry_at, entry_start, required, entry_refusal, sheet_refusal, most_kind}
-use Rattle.sheet.specs.PassedLaws.{standing, accepted_head}
-use Rattle.sheet.specs.AcceptedLaws.{kind_cases, kind_of_entry, accepted_standing}
+use Rattle.sheet.proofs.PassedLaws.{standing, accepted_head}
+use Rattle.sheet.proofs.AcceptedLaws.{kind_cases, kind_of_entry, accepted_standing}
 use Rattle.sheet.specs.declared.Steps.{Steps}
 use Rattle.sheet.specs.Reading.{Readable, HasNumber, HasWay, first_place, second_place, Reads}
 
