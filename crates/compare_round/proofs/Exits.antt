@@ -122,13 +122,6 @@ module _ {by : Basis} {i j twin : ℕ} {x₀ x : Lists} (inv : InRow by i j twin
       let e : i * by.sizes.right + j ≡ suc i * by.sizes.right = omega (arith, suc-mul i by.sizes.right, inv.within) in
       rw e at inv.goes
 
-  -- the map is as long as it was
-  pub row_places : length x.map ≡ length x₀.map
-  row_places =
-      let e = mul-le-mul_right by.sizes.right inv.row in
-      let d = suc-mul i by.sizes.right in
-      map_size row_stands (omega (arith, e, d, inv.within)) ∙ sym (map_size inv.begun (omega (arith, e, d)))
-
   pub row_small : i < 64
   row_small = omega (arith, inv.row, left_few inv.begun)
 
@@ -217,10 +210,6 @@ map_begun {by} {x} st = record { begun = st; goes = rw zero-mul (goes_none by 0 
 module _ {by : Basis} {i : ℕ} {x₀ x : Lists} (inv : InMap by i x₀ x) where
   pub map_stands : Stands by (i * by.sizes.right) x
   map_stands = goes_stands inv.begun inv.goes
-
-  -- the map is as long as it was
-  pub map_places : length x.map ≡ length x₀.map
-  map_places = map_size map_stands (mul-le-mul_right by.sizes.right inv.within) ∙ sym (map_size inv.begun (omega arith))
 
   pub rows_few : by.sizes.left ≤ 64
   rows_few = left_few inv.begun
