@@ -1,6 +1,6 @@
 -- What each turn and the way out of `settle_row` and `settle_all` shows of the definitions of `specs/`. The numbers that the code computed are
 -- variables here, with what is known of them, so that `search` finds them in a need's record.
-use mathlib.Core.Bool.{Bool, true, false, So, ◌&&◌, ◌||◌}
+use mathlib.Core.Bool.{Bool, true, So, ◌&&◌, ◌||◌}
 use mathlib.Core.List.{List}
 use mathlib.Core.Logic.{◌≢◌, ⊎_elim}
 use mathlib.Core.Path.{◌≡◌, refl, sym, ap, ap₂, ◌∙◌}
@@ -23,7 +23,7 @@ use Rattle.compare_entries.specs.Parting.{Lists, lists}
 use Rattle.compare_entries.specs.GrowingLaws.{onward_none}
 use Rattle.compare_pair.specs.declared.Case.{Case}
 use Rattle.compare_pair.specs.Settling.{Basis, Round, Standing, Stands, Goes, Undecided}
-use Rattle.compare_pair.specs.Laws.{goes_none, goes_more, goes_stands}
+use Rattle.compare_pair.proofs.Laws.{goes_none, goes_more, goes_stands}
 use Rattle.compare_round.specs.Twins.{twin_of, Twin}
 use Rattle.compare_round.proofs.Twins.{twin_next, twin_still}
 
@@ -122,13 +122,6 @@ module _ {by : Basis} {i j twin : ℕ} {x₀ x : Lists} (inv : InRow by i j twin
       let e : i * by.sizes.right + j ≡ suc i * by.sizes.right = omega (arith, suc-mul i by.sizes.right, inv.within) in
       rw e at inv.goes
 
-  -- the map is as long as it was
-  pub row_places : length x.map ≡ length x₀.map
-  row_places =
-      let e = mul-le-mul_right by.sizes.right inv.row in
-      let d = suc-mul i by.sizes.right in
-      map_size row_stands (omega (arith, e, d, inv.within)) ∙ sym (map_size inv.begun (omega (arith, e, d)))
-
   pub row_small : i < 64
   row_small = omega (arith, inv.row, left_few inv.begun)
 
@@ -217,10 +210,6 @@ map_begun {by} {x} st = record { begun = st; goes = rw zero-mul (goes_none by 0 
 module _ {by : Basis} {i : ℕ} {x₀ x : Lists} (inv : InMap by i x₀ x) where
   pub map_stands : Stands by (i * by.sizes.right) x
   map_stands = goes_stands inv.begun inv.goes
-
-  -- the map is as long as it was
-  pub map_places : length x.map ≡ length x₀.map
-  map_places = map_size map_stands (mul-le-mul_right by.sizes.right inv.within) ∙ sym (map_size inv.begun (omega arith))
 
   pub rows_few : by.sizes.left ≤ 64
   rows_few = left_few inv.begun

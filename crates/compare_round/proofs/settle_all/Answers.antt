@@ -1,6 +1,6 @@
 -- `compare_round::settle_all` meets its contract. The invariant: the round stands before the row.
 use native.Mathlib.Omega.{arith}
-use Rattle.compare_round.proofs.Exits.{map_begun, map_stands, map_places, rows_few, map_next, map_done}
+use Rattle.compare_round.proofs.Exits.{map_begun, map_stands, rows_few, map_next, map_done}
 use Rattle.compare_round.proofs.settle_all.Goals as goal
 
 pub loop-row-init : goal.loop-row-init
@@ -14,9 +14,6 @@ overflow_step-row c = omega (arith, rows_few c.loop-row.invariant, c.loop-row-te
 
 pub loop-row-preserved : goal.loop-row-preserved
 loop-row-preserved c = search map_next
-
-pub shape_of-map : goal.shape_of-map
-shape_of-map c = search map_places
 
 pub returns : goal.returns
 returns c = search map_done

@@ -1,8 +1,8 @@
 -- `compare_round::settle_row` meets its contract. The invariant: the round stands before the column, and the twin is one.
 use mathlib.Core.Path.{refl}
 use native.Mathlib.Omega.{arith}
-use Rattle.compare_pair.specs.Laws.{stands_unknowing, goes_knowing}
-use Rattle.compare_round.proofs.Exits.{row_begun, row_stands, row_done, row_small, width_small, place_small, inside, inside_next, undecided, next_stays, next_parted, row_next, row_places, goes_to}
+use Rattle.compare_pair.proofs.Laws.{stands_unknowing, goes_knowing}
+use Rattle.compare_round.proofs.Exits.{row_begun, row_stands, row_done, row_small, width_small, place_small, inside, inside_next, undecided, next_stays, next_parted, row_next, goes_to}
 use Rattle.compare_round.proofs.settle_row.Goals.{then-map-place-eq0+then-not-stays, then-map-place-eq0+else-not-stays, else-map-place-eq0}
 use Rattle.compare_round.proofs.settle_row.Goals as goal
 
@@ -65,9 +65,6 @@ loop-column-preserved c =
       | then-map-place-eq0+else-not-stays w ↦ goes_to (next_stays inv h w.stays.ensures w.if-not-stays.false) w.room-is w.map-is w.new-is w.p-is
       | else-map-place-eq0 w ↦ goes_to (next_parted inv h w.if-map-place-eq0.false) w.room-is w.map-is w.new-is w.p-is
     ]) _ c.twin_of-twin.ensures
-
-pub shape_of-map : goal.shape_of-map
-shape_of-map c = search row_places
 
 pub returns : goal.returns
 returns c = search row_done
