@@ -116,7 +116,8 @@ fn settle_row(
     let mut twin = i;
     for column in 0..m {
         let place = i * m + column;
-        if map[place] == 0 {
+        let still = map[place] == 0;
+        if still {
             if !stays(map, i, column, twin, sizes, row.live) {
                 let left = i as u8;
                 let right = column as u8;
