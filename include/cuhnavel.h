@@ -81,8 +81,8 @@ uint64_t cuhnavel_check_book(const uint8_t *bytes, size_t len);
  */
 uint64_t cuhnavel_check_sheet(const uint8_t *bytes, size_t len);
 
-/* The bytes of stack that cuhnavel_compare and cuhnavel_compare_one_way take at most, whatever they are asked: 26,700 as measured with books of which the
- * ways are many, and 29,400 if the deepest calls of all come together, rounded up to a multiple of 4,096. tests/stack runs them on just so much. */
+/* The bytes of stack that cuhnavel_compare and cuhnavel_compare_one_way take at most, whatever they are asked: 28,200 as measured with books of which the
+ * ways are many, and 32,000 if the deepest calls of all come together, rounded up to a multiple of 4,096. tests/stack runs them on just so much. */
 #define CUHNAVEL_COMPARE_STACK 32768
 
 /* Compare: which cells of two books do the same, and what parts the others. The books may be of different versions. With n the left
@@ -198,7 +198,7 @@ uint64_t cuhnavel_pair(const uint16_t *map, size_t map_len, size_t place, const 
 uint64_t cuhnavel_links(const uint8_t *book, size_t book_len, size_t cell);
 
 /* The bytes of stack that cuhnavel_question_length and cuhnavel_question_text take at most, whatever they are asked: 164,000 and
- * 278,800 as measured with the deepest questions, rounded up to multiples of 4,096. tests/stack runs them on just so much. */
+ * 229,600 as measured with the deepest questions, rounded up to multiples of 4,096. tests/stack runs them on just so much. */
 #define CUHNAVEL_QUESTION_LENGTH_STACK 167936
 #define CUHNAVEL_QUESTION_TEXT_STACK 282624
 

@@ -1,3 +1,2 @@
 pub mod RowExits
 pub mod PairExits
-pub mod Told

@@ -10,10 +10,13 @@ use lib.Bits.{bit_or}
 use lib.ListN.{length, get_or}
 use Rattle.words.specs.Words.{bit, tally, word_of, IsCount}
 use Rattle.words.specs.Laws.{word-in, word_out}
-use Rattle.answers.specs.Row.{row_refusal, zero_from, row_word, row_count, row_answer}
+use Rattle.answers.specs.Row.{row_refusal, zero_from, row_word, row_count, row, row_answer}
 use Rattle.answers.specs.RowLaws.{Whole, row_whole, whole_row, row_count_bits, row-given, row_answered}
-use Rattle.answers.specs.declared.RowAnswer.{RowAnswer}
-use Rattle.answers.specs.declared.RowAnswer.TheVariants.{Row, Refused}
+use Rattle.std.specs.Prelude.{Result, Ok, Err}
+use Rattle.outcome.specs.Refused.{number}
+use Rattle.outcome.specs.RefusalLaws.{judged-err}
+use Rattle.outcome.specs.declared.Refusal.{Refusal}
+use Rattle.answers.specs.declared.RowSet.{RowSet}
 
 -- ---- the refusals of a row
 module _ (map : List ℕ) (m i : ℕ) where
@@ -44,43 +47,29 @@ module _ (map : List ℕ) (m i : ℕ) where
           let e = suc-mul i m in
           sym (whole_row map m i (record { some = positive; most = h; inside = omega arith }))
 
--- ---- the word of a row, one place at a time
--- r is the word after place j
-module _ (map : List ℕ) (base j word r : ℕ) (w : word ≡ word_of j (zero_from map base)) where
-  pub zero_there : get_or map (base + j) 0 ≡ 0 → {x : ℕ} → x ≡ bit_or word (2 ^ j) → r ≡ x → r ≡ word_of (j + 1) (zero_from map base)
-  zero_there z {x} e d = word-in (zero_from map base) j word r w (eq-eqb (get_or map (base + j) 0) 0 z) x e d
-
-  pub zero_absent : (get_or map (base + j) 0 ≡ 0 → ⊥) → r ≡ word → r ≡ word_of (j + 1) (zero_from map base)
-  zero_absent f d = word_out (zero_from map base) j word r w (ne_eqb (get_or map (base + j) 0) 0 f) d
-
--- after the last place
-pub row_done : (map : List ℕ) (base m j word : ℕ) → word ≡ word_of j (zero_from map base) → j ≤ m → m ≤ j → word ≡ word_of m (zero_from map base)
-row_done map base m j word w h l = let e : j ≡ m = omega arith in w ∙ rw e
-
 -- ---- Row: r is the refusal
-module _ (map : List ℕ) (m i r : ℕ) (d : r ≡ row_refusal map m i) where
-  pub row-refused : (r ≡ 0 → ⊥) → Refused r ≡ row_answer map m i
-  unfolding row_answer
-  row-refused f = simp (← d, ne_eqb r 0 f)
+pub row-refused : (map : List ℕ) (m i : ℕ) (r : Refusal) → number r ≡ row_refusal map m i → Err r ≡ row_answer map m i
+unfolding row_answer
+row-refused map m i r d = sym (judged-err (row_refusal map m i) (row (row_word map m i) (row_count map m i)) r d)
 
-  module _ (z : r ≡ 0) where
-    whole : Whole map m i
-    whole = row_whole map m i (sym d ∙ z)
+module _ (map : List ℕ) (m i : ℕ) (d : 0 ≡ row_refusal map m i) where
+  whole : Whole map m i
+  whole = row_whole map m i (sym d)
 
-    pub row_few : m ≤ 64
-    row_few = whole.most
+  pub row_few : m ≤ 64
+  row_few = whole.most
 
-    pub row_ends : i * m + m ≤ length map
-    row_ends = whole.inside
+  pub row_ends : i * m + m ≤ length map
+  row_ends = whole.inside
 
-    pub row_starts : length map < 2 ^ 64 → i * m < 2 ^ 64
-    row_starts f = omega (arith, row_ends)
+  pub row_starts : length map < 2 ^ 64 → i * m < 2 ^ 64
+  row_starts f = omega (arith, row_ends)
 
-    pub row-counted : (word count : ℕ) → word ≡ row_word map m i → IsCount word count → Row word count ≡ row_answer map m i
-    row-counted word count w n =
-        let e : count ≡ row_count map m i = n.is ∙ ap (λ (x : ℕ). tally 64 (bit x)) w ∙ row_count_bits map m i row_few in
-        ap₂ Row w e ∙ sym (row-given map m i whole)
+  pub row-counted : (word count : ℕ) → word ≡ row_word map m i → IsCount word count → Ok (row word count) ≡ row_answer map m i
+  row-counted word count w n =
+      let e : count ≡ row_count map m i = n.is ∙ ap (λ (x : ℕ). tally 64 (bit x)) w ∙ row_count_bits map m i row_few in
+      ap₂ (λ w c. Ok (row w c)) w e ∙ sym (row-given map m i whole)
 
 -- ---- the answer as a number
-pub row_small : (map : List ℕ) (m i : ℕ) (a : RowAnswer) (word count : ℕ) → a ≡ row_answer map m i → a ≡ Row word count → count < 2 ^ 24
-row_small map m i a word count p q = let s = (row_answered map m i word count (sym p ∙ q)).small in omega arith
+pub row_small : (map : List ℕ) (m i : ℕ) (r : RowSet) → Ok r ≡ row_answer map m i → r.count < 2 ^ 24
+row_small map m i r p = let s = (row_answered map m i r.word r.count (sym p)).small in omega arith

@@ -1,5 +1,5 @@
 -- Laws of Pair: what each answer shows of the map and the sheet, and where the entry of a question starts.
-use Rattle.std.specs.Prelude.{Bool, cond, List, ◌⊎◌, ◌≡◌, ℕ, zero, suc, ◌+◌, ◌*◌, ◌^◌, ◌≤◌, ◌<◌, length}
+use Rattle.std.specs.Prelude.{Bool, cond, List, ◌⊎◌, ◌≡◌, ℕ, zero, suc, ◌+◌, ◌*◌, ◌^◌, ◌≤◌, ◌<◌, length, Result, Ok, Err}
 use Rattle.std.proofs.Math.Bool.{true, false}
 use Rattle.std.proofs.Math.Logic.{inl, inr}
 use Rattle.std.proofs.Math.Path.{refl}
@@ -14,8 +14,15 @@ use Rattle.sheet.specs.Sheet.{hidden_place, count_of, head_size, next_at, start_
 use Rattle.sheet.proofs.AcceptedLaws.{accepted_standing, entries_of-at}
 use Rattle.sheet.specs.declared.Question.{Question}
 use Rattle.answers.specs.Pair.{place_of, question_answer, place_answer, pair_answer}
-use Rattle.answers.specs.declared.PairAnswer.{PairAnswer}
-use Rattle.answers.specs.declared.PairAnswer.TheVariants.{Matched, Hidden, Parted, SheetRefused, Refused}
+use Rattle.outcome.specs.Refused.{number, named, of_part}
+use Rattle.outcome.specs.declared.Part.{Part}
+use Rattle.outcome.specs.declared.Part.TheVariants as part
+use Rattle.outcome.specs.declared.Refusal.{Refusal}
+use Rattle.outcome.specs.declared.Refusal.TheVariants.{NoEntry, NoPlace}
+use Rattle.outcome.specs.declared.Refused.{Refused}
+use Rattle.sheet.proofs.OutcomeLaws.{sheet_refusal-named}
+use Rattle.answers.specs.declared.Said.{Said}
+use Rattle.answers.specs.declared.Said.TheVariants.{Matched, Hidden, Parted}
 use Rattle.answers.specs.declared.Place.TheVariants as says
 
 -- ---- where an entry starts
@@ -49,14 +56,24 @@ pub record Fetched (map : List ℕ) (place : ℕ) (s : List ℕ) (k start : ℕ)
   pub entry : get_or (entries_of s) k truth ≡ entry_at s start
   pub whole : start + get_or s start 0 < length s
 
+-- What is said shows of the map and the sheet.
+unfoldable pub Tells : List ℕ → ℕ → List ℕ → Said → Type 0
+Tells map place s Matched = Given map place s × (get_or map place 0 ≡ 0)
+Tells map place s Hidden = Given map place s × (get_or map place 0 ≡ hidden_place)
+Tells map place s (Parted question start) = Fetched map place s question.0 start
+
+-- What a refusal shows, by the part that it speaks of: the sheet's own, or one of the call.
+unfoldable pub Declines : List ℕ → ℕ → List ℕ → Part → Refusal → Type 0
+Declines map place s part.Sheet r = (number r ≡ sheet_refusal s) × (sheet_refusal s ≡ 0 → ⊥)
+Declines map place s part.Call r =
+    (sheet_refusal s ≡ 0) × (((r ≡ NoPlace) × (length map ≤ place)) ⊎ ((r ≡ NoEntry) × (place < length map) × (count_of s ≤ get_or map place 0)))
+Declines map place s part.LeftBook r = ⊥
+Declines map place s part.RightBook r = ⊥
+
 -- What each answer shows of the map and the sheet.
-unfoldable pub Shows : List ℕ → ℕ → List ℕ → PairAnswer → Type 0
-Shows map place s Matched = Given map place s × (get_or map place 0 ≡ 0)
-Shows map place s Hidden = Given map place s × (get_or map place 0 ≡ hidden_place)
-Shows map place s (Parted question start) = Fetched map place s question.0 start
-Shows map place s (SheetRefused r) = (r ≡ sheet_refusal s) × (r ≡ 0 → ⊥)
-Shows map place s (Refused r) =
-    (sheet_refusal s ≡ 0) × (((r ≡ 26) × (length map ≤ place)) ⊎ ((r ≡ 25) × (place < length map) × (count_of s ≤ get_or map place 0)))
+unfoldable pub Shows : List ℕ → ℕ → List ℕ → Result Said Refused → Type 0
+Shows map place s (Ok said) = Tells map place s said
+Shows map place s (Err r) = Declines map place s r.part r.refusal
 
 module _ (map : List ℕ) (place : ℕ) (s : List ℕ) where
   module _ (g : Given map place s) where
@@ -73,15 +90,15 @@ module _ (map : List ℕ) (place : ℕ) (s : List ℕ) where
         }
 
     question_shows : (question : Question) → question.0 ≡ get_or map place 0 → (question.0 ≡ 0 → ⊥) → Shows map place s (question_answer s question)
-    unfolding Shows question_answer
+    unfolding Shows Tells Declines question_answer
     question_shows question d f = go (ltb question.0 (count_of s)) refl
       where
-        go : (b : Bool) → ltb question.0 (count_of s) ≡ b → Shows map place s (cond b (Parted question (entry_start s question.0)) (Refused 25))
+        go : (b : Bool) → ltb question.0 (count_of s) ≡ b → Shows map place s (cond b (Ok (Parted question (entry_start s question.0))) (Err (of_part part.Call NoEntry)))
         go true e = fetched question.0 d f (ltb-true _ _ e)
         go false e = (g.good, inr (refl, g.inside, rw (← d) (ltb-false _ _ e)))
 
     place_shows : Shows map place s (place_answer s (place_of (get_or map place 0)))
-    unfolding Shows place_answer place_of
+    unfolding Shows Tells place_answer place_of
     place_shows = go (eqb (get_or map place 0) 0) refl (eqb (get_or map place 0) hidden_place) refl
       where
         go : (b : Bool) → eqb (get_or map place 0) 0 ≡ b → (c : Bool) → eqb (get_or map place 0) hidden_place ≡ c
@@ -91,19 +108,19 @@ module _ (map : List ℕ) (place : ℕ) (s : List ℕ) where
         go false e false f = question_shows (record { 0 = get_or map place 0 }) refl (eqb-false _ _ e)
 
   pub pair_shows : Shows map place s (pair_answer map place s)
-  unfolding Shows pair_answer
+  unfolding Shows Declines pair_answer
   pair_shows = go (eqb (sheet_refusal s) 0) refl (ltb place (length map)) refl
     where
       go : (a : Bool) → eqb (sheet_refusal s) 0 ≡ a → (b : Bool) → ltb place (length map) ≡ b
-          → Shows map place s (cond a (cond b (place_answer s (place_of (get_or map place 0))) (Refused 26)) (SheetRefused (sheet_refusal s)))
+          → Shows map place s (cond a (cond b (place_answer s (place_of (get_or map place 0))) (Err (of_part part.Call NoPlace))) (Err (of_part part.Sheet (named (sheet_refusal s)))))
       go true e true f = place_shows (record { good = eqb-true _ _ e; inside = ltb-true _ _ f })
       go true e false f = (eqb-true _ _ e, inl (refl, ltb-false _ _ f))
-      go false e b f = (refl, eqb-false _ _ e)
+      go false e b f = (sheet_refusal-named s (eqb-false _ _ e), eqb-false _ _ e)
 
 -- A pair that is parted.
 pub pair_fetched : (map : List ℕ) (place : ℕ) (s : List ℕ) (question : Question) (start : ℕ)
-    → pair_answer map place s ≡ Parted question start → Fetched map place s question.0 start
-unfolding Shows
+    → pair_answer map place s ≡ Ok (Parted question start) → Fetched map place s question.0 start
+unfolding Shows Tells
 pair_fetched map place s question start e = rw e at (pair_shows map place s)
 
 -- The number and the byte are small enough to be told.

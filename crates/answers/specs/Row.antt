@@ -1,9 +1,11 @@
 -- Row (01, "The operations and when they decline"), as executable definitions over the list of the map's places.
-use Rattle.std.specs.Prelude.{Bool, cond, ◌||◌, List, ℕ, ◌+◌, ◌*◌, eqb, ltb, length, get_or}
-use Rattle.outcome.specs.Outcome.{Outcome, accepted, refused, of_call}
+use Rattle.std.specs.Prelude.{Bool, cond, ◌||◌, List, ℕ, ◌+◌, ◌*◌, eqb, ltb, length, get_or, Result, Ok, Err}
+use Rattle.outcome.specs.Outcome.{Outcome, accepted}
+use Rattle.outcome.specs.Refused.{of_part, declined, judged}
+use Rattle.outcome.specs.declared.Part.TheVariants as part
+use Rattle.outcome.specs.declared.Refusal.{Refusal}
 use Rattle.words.specs.Words.{tally, word_of}
-use Rattle.answers.specs.declared.RowAnswer.{RowAnswer}
-use Rattle.answers.specs.declared.RowAnswer.TheVariants.{Row, Refused}
+use Rattle.answers.specs.declared.RowSet.{RowSet}
 
 -- m is at most this.
 abbrev pub most_cells : ℕ
@@ -27,18 +29,21 @@ row_word map m i = word_of m (zero_from map (i * m))
 abbrev pub row_count : List ℕ → ℕ → ℕ → ℕ
 row_count map m i = tally m (zero_from map (i * m))
 
+-- A row of that word and that count.
+abbrev pub row : ℕ → ℕ → RowSet
+row word count = record { word = word; count = count }
+
 -- Row gives the word and the count, or its refusal.
-unfoldable pub row_answer : List ℕ → ℕ → ℕ → RowAnswer
-row_answer map m i =
-    cond (eqb (row_refusal map m i) 0) (Row (row_word map m i) (row_count map m i)) (Refused (row_refusal map m i))
+unfoldable pub row_answer : List ℕ → ℕ → ℕ → Result RowSet Refusal
+row_answer map m i = judged (row_refusal map m i) (row (row_word map m i) (row_count map m i))
 
 -- 01's number and values for each answer: the count; a refusal speaks of the call itself. The word has 64 bits and no room in an outcome: a caller that
 -- takes numbers asks for it by itself (`word_in`).
-abbrev pub row_outcome : RowAnswer → Outcome
-row_outcome (Row word count) = accepted count 0
-row_outcome (Refused r) = refused of_call r
+abbrev pub row_outcome : Result RowSet Refusal → Outcome
+row_outcome (Ok r) = accepted r.count 0
+row_outcome (Err r) = declined (of_part part.Call r)
 
 -- The word of an answer, 0 where it is a refusal: what the caller of `row_word` gets.
-abbrev pub word_in : RowAnswer → ℕ
-word_in (Row word count) = word
-word_in (Refused r) = 0
+abbrev pub word_in : Result RowSet Refusal → ℕ
+word_in (Ok r) = r.word
+word_in (Err r) = 0

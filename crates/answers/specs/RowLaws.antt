@@ -1,11 +1,12 @@
 -- Laws of Row: what a row that is not refused is, and what its word and its count say of the map.
-use Rattle.std.specs.Prelude.{Bool, true, false, cond, ◌||◌, List, ◌≡◌, refl, ℕ, ◌+◌, ◌*◌, ◌≤◌, eqb, ltb, length}
-use Rattle.std.proofs.Common.{sym, ◌∙◌, lt_of_lt_of_le, arith, le-ltb, ltb-false, eq-eqb, ne_eqb, eqb-true, pow_mono}
+use Rattle.std.specs.Prelude.{Bool, true, false, cond, ◌||◌, List, ◌≡◌, refl, ℕ, ◌+◌, ◌*◌, ◌≤◌, eqb, ltb, length, Ok, Err}
+use Rattle.std.proofs.Common.{sym, ap, ◌∙◌, lt_of_lt_of_le, arith, le-ltb, ltb-false, eq-eqb, ne_eqb, eqb-true, pow_mono}
 use Rattle.std.proofs.lemmas.Bool.{eqb-false}
 use Rattle.words.specs.Words.{bit, tally, word_of}
 use Rattle.words.specs.Laws.{ones_tally, tally-le, tally-word_of, word_of-lt}
-use Rattle.answers.specs.Row.{most_cells, row_refusal, zero_from, row_word, row_count, row_answer}
-use Rattle.answers.specs.declared.RowAnswer.TheVariants.{Row, Refused}
+use Rattle.outcome.specs.Refused.{named, judged}
+use Rattle.outcome.specs.RefusalLaws.{judged-ok}
+use Rattle.answers.specs.Row.{most_cells, row_refusal, zero_from, row_word, row_count, row, row_answer}
 
 -- ---- a row that is not refused
 -- m is in range, and row i is wholly in the map.
@@ -46,9 +47,9 @@ row_count_bits map m i h = tally-word_of-more m most_cells (zero_from map (i * m
 
 -- ---- an answer
 -- A row that is wholly in the map is answered.
-pub row-given : (map : List ℕ) (m i : ℕ) → Whole map m i → row_answer map m i ≡ Row (row_word map m i) (row_count map m i)
+pub row-given : (map : List ℕ) (m i : ℕ) → Whole map m i → row_answer map m i ≡ Ok (row (row_word map m i) (row_count map m i))
 unfolding row_answer
-row-given map m i w = simp (eq-eqb (row_refusal map m i) 0 (whole_row map m i w))
+row-given map m i w = judged-ok (row_refusal map m i) (row (row_word map m i) (row_count map m i)) (whole_row map m i w)
 
 -- What an answer that is no refusal shows.
 pub record Answered (map : List ℕ) (m i word count : ℕ) : Type 0 where
@@ -57,14 +58,15 @@ pub record Answered (map : List ℕ) (m i word count : ℕ) : Type 0 where
   pub is_count : count ≡ row_count map m i
   pub small : count ≤ most_cells
 
-pub row_answered : (map : List ℕ) (m i word count : ℕ) → row_answer map m i ≡ Row word count → Answered map m i word count
-unfolding row_answer
+pub row_answered : (map : List ℕ) (m i word count : ℕ) → row_answer map m i ≡ Ok (row word count) → Answered map m i word count
+unfolding row_answer judged
 row_answered map m i word count h = go (eqb (row_refusal map m i) 0) refl h
   where
-    go : (b : Bool) → eqb (row_refusal map m i) 0 ≡ b → cond b (Row (row_word map m i) (row_count map m i)) (Refused (row_refusal map m i)) ≡ Row word count
+    go : (b : Bool) → eqb (row_refusal map m i) 0 ≡ b → cond b (Ok (row (row_word map m i) (row_count map m i))) (Err (named (row_refusal map m i))) ≡ Ok (row word count)
         → Answered map m i word count
     go true e z =
         let w = row_whole map m i (eqb-true _ _ e) in
-        let c : count ≡ row_count map m i = cc in
-        record { whole = w; is_word = cc; is_count = c; small = omega (arith, w.most, tally-le m (zero_from map (i * m))) }
-    go false e z = let a : ◌≡◌ {A = ℕ} 0 1 = cc in absurd (omega arith)
+        let d : row word count ≡ row (row_word map m i) (row_count map m i) = cc in
+        let c : count ≡ row_count map m i = ap (λ r. r.count) d in
+        record { whole = w; is_word = ap (λ r. r.word) d; is_count = c; small = omega (arith, w.most, tally-le m (zero_from map (i * m))) }
+    go false e z = cc

@@ -3,37 +3,38 @@
 
 ghost use Rattle.std.specs.Prelude.{◌≡◌, ◌+◌, ◌≤◌, ◌<◌, length, get_or};
 ghost use Rattle.outcome.specs.Outcome.{code};
+ghost use Rattle.outcome.specs.Refused.{refusal_in};
 ghost use Rattle.words.specs.Words.{word_of};
-ghost use Rattle.sheet.specs.Sheet.{count_of, sheet_refusal};
 ghost use Rattle.answers.specs.Pair.{place_of, pair_answer, pair_outcome};
 ghost use Rattle.answers.specs.Row.{zero_from, row_refusal, row_answer, row_outcome, word_in};
 
-use sheet::{Question, SheetAnswer};
+use outcome::{Part, Refusal, Refused};
+use sheet::{Question, Sheet};
 
-// What Row answers: the set of the right cells that are matched to a left cell and how many they are, or the refusal.
-#[derive(Clone, Copy)]
-pub enum RowAnswer {
-    Row { word: u64, count: u32 },
-    Refused(u8),
+// What Row answers: the set of the right cells that are matched to a left cell, and how many they are.
+#[derive(Clone, Copy, PartialEq, Eq, Debug)]
+pub struct RowSet {
+    pub word: u64,
+    pub count: u32,
 }
 
 // The most right cells of a book.
 const CELLS: usize = 64;
 
-// The refusal of row i of a map with m right cells, 0 where there is none. Nothing is multiplied, so no m and i are too large.
-fn row_refusal(map: &[u16], m: usize, i: usize) -> u8
-    ensures { result ≡ row_refusal map.now m i }
+// Checks that row i of a map with m right cells is in the map. Nothing is multiplied, so no m and i are too large.
+fn check_row(map: &[u16], m: usize, i: usize) -> Result<(), Refusal>
+    ensures { refusal_in result ≡ row_refusal map.now m i }
 {
     if m == 0 {
-        return 27;
+        return Err(Refusal::RowLength);
     }
     if CELLS < m {
-        return 27;
+        return Err(Refusal::RowLength);
     }
     if map.len() / m <= i {
-        return 26;
+        return Err(Refusal::NoPlace);
     }
-    0
+    Ok(())
 }
 
 // The set of those of the m places from `base` on that hold 0.
@@ -41,39 +42,27 @@ fn zeros(map: &[u16], base: usize, m: usize) -> u64
     requires { (m ≤ 64) × (base + m ≤ length map.now) }
     ensures { result ≡ word_of m (zero_from map.now base) }
 {
-    let mut word: u64 = 0;
-    let mut j: usize = 0;
-    while j < m {
-        if map[base + j] == 0 {
-            word = words::with(word, j as u8);
-        }
-        j += 1;
-    }
-    word
+    words::those(m, |j| map[base + j] == 0)
 }
 
 // Row: the word whose bit j is set where place i × m + j of the map holds 0, and how many bits are set, for any m and i.
 // Refused: 27 where m is 0 or above 64, else 26 where the row is not wholly in the map.
-pub fn row(map: &[u16], m: usize, i: usize) -> RowAnswer
+pub fn row(map: &[u16], m: usize, i: usize) -> Result<RowSet, Refusal>
     ensures { result ≡ row_answer map.now m i }
 {
-    let r = row_refusal(map, m, i);
-    if r != 0 {
-        return RowAnswer::Refused(r);
-    }
+    check_row(map, m, i)?;
     let word = zeros(map, i * m, m);
     let count = words::count(word);
-    RowAnswer::Row { word, count }
+    Ok(RowSet { word, count })
 }
 
 // The answer of `row` as one number: the refusal, or 2^16 × the count. The word is not in it: `row_word` gives that (`word_in`).
 pub fn row_code(map: &[u16], m: usize, i: usize) -> u64
     ensures { result ≡ code (row_outcome (row_answer map.now m i)) }
 {
-    let answer = row(map, m, i);
-    match answer {
-        RowAnswer::Row { word: _, count } => outcome::code(0, outcome::OF_CALL, count, 0),
-        RowAnswer::Refused(r) => outcome::code(r, outcome::OF_CALL, 0, 0),
+    match row(map, m, i) {
+        Ok(row) => outcome::accepted(row.count, 0),
+        Err(r) => r.of(Part::Call).code(),
     }
 }
 
@@ -81,26 +70,22 @@ pub fn row_code(map: &[u16], m: usize, i: usize) -> u64
 pub fn row_word(map: &[u16], m: usize, i: usize) -> u64
     ensures { result ≡ word_in (row_answer map.now m i) }
 {
-    let answer = row(map, m, i);
-    match answer {
-        RowAnswer::Row { word, count: _ } => word,
-        RowAnswer::Refused(_) => 0,
+    match row(map, m, i) {
+        Ok(row) => row.word,
+        Err(_) => 0,
     }
 }
 
-// What Pair answers: matched; hidden, where a cell of the pair is; parted, by the question of that number, whose entry starts at that byte of the sheet; or a
-// refusal.
-#[derive(Clone, Copy)]
-pub enum PairAnswer {
+// What Pair answers: matched; hidden, where a cell of the pair is; or parted, by the question of that number, whose entry starts at that byte of the sheet.
+#[derive(Clone, Copy, PartialEq, Eq, Debug)]
+pub enum Said {
     Matched,
     Hidden,
     Parted { question: Question, start: usize },
-    SheetRefused(u8),
-    Refused(u8),
 }
 
 // What a place of a map says of its pair. Pair takes it apart before it reads the question's entry.
-#[derive(Clone, Copy)]
+#[derive(Clone, Copy, PartialEq, Eq, Debug)]
 enum Place {
     Matched,
     Hidden,
@@ -112,35 +97,29 @@ fn place_of(map: &[u16], place: usize) -> Place
     requires { place < length map.now }
     ensures { result ≡ place_of (get_or map.now place 0) }
 {
-    let number = map[place];
-    if number == 0 {
-        return Place::Matched;
+    match map[place] {
+        0 => Place::Matched,
+        sheet::HIDDEN_PLACE => Place::Hidden,
+        number => Place::Parted(Question(number)),
     }
-    if number == sheet::HIDDEN_PLACE {
-        return Place::Hidden;
-    }
-    Place::Parted(Question(number))
 }
 
-// What Pair answers of an accepted sheet with q entries.
-fn pair_of(map: &[u16], place: usize, bytes: &[u8], q: u16) -> PairAnswer
-    requires { (sheet_refusal bytes.now ≡ 0) × (q ≡ count_of bytes.now) }
-    ensures { result ≡ pair_answer map.now place bytes.now }
+// What Pair answers of an accepted sheet.
+fn pair_of(map: &[u16], place: usize, sheet: Sheet<'_>) -> Result<Said, Refused>
+    ensures { result ≡ pair_answer map.now place sheet.entry.bytes.now }
 {
     if map.len() <= place {
-        return PairAnswer::Refused(26);
+        return Err(Refusal::NoPlace.of(Part::Call));
     }
-    let said = place_of(map, place);
-    match said {
-        Place::Matched => PairAnswer::Matched,
-        Place::Hidden => PairAnswer::Hidden,
+    match place_of(map, place) {
+        Place::Matched => Ok(Said::Matched),
+        Place::Hidden => Ok(Said::Hidden),
         Place::Parted(question) => {
-            let number = question.0;
-            if q <= number {
-                return PairAnswer::Refused(25);
+            if sheet.entries() <= question.0 {
+                return Err(Refusal::NoEntry.of(Part::Call));
             }
-            let start = sheet::entry_start(bytes, question);
-            PairAnswer::Parted { question, start }
+            let start = sheet.entry_start(question);
+            Ok(Said::Parted { question, start })
         }
     }
 }
@@ -148,13 +127,12 @@ fn pair_of(map: &[u16], place: usize, bytes: &[u8], q: u16) -> PairAnswer
 // Pair: whether the pair at a place of the map is matched, or has a hidden cell, else the question that parts it and the byte of the sheet where its
 // entry starts. Refused: the sheet's own refusal, also where the pair is matched; 26 where the place is outside the map; 25 where the number
 // at the place is not that of an entry.
-pub fn pair(map: &[u16], place: usize, bytes: &[u8]) -> PairAnswer
+pub fn pair(map: &[u16], place: usize, bytes: &[u8]) -> Result<Said, Refused>
     ensures { result ≡ pair_answer map.now place bytes.now }
 {
-    let checked = sheet::check(bytes);
-    match checked {
-        SheetAnswer::Accepted { entries, bound: _ } => pair_of(map, place, bytes, entries),
-        SheetAnswer::Refused(r) => PairAnswer::SheetRefused(r),
+    match Sheet::check(bytes) {
+        Ok(sheet) => pair_of(map, place, sheet),
+        Err(r) => Err(r.of(Part::Sheet)),
     }
 }
 
@@ -163,14 +141,10 @@ pub fn pair(map: &[u16], place: usize, bytes: &[u8]) -> PairAnswer
 pub fn pair_code(map: &[u16], place: usize, bytes: &[u8]) -> u64
     ensures { result ≡ code (pair_outcome (pair_answer map.now place bytes.now)) }
 {
-    let answer = pair(map, place, bytes);
-    match answer {
-        PairAnswer::Matched => outcome::code(0, outcome::OF_CALL, 0, 0),
-        PairAnswer::Hidden => outcome::code(0, outcome::OF_CALL, sheet::HIDDEN_PLACE as u32, 0),
-        PairAnswer::Parted { question, start } => {
-            outcome::code(0, outcome::OF_CALL, question.0 as u32, start as u32)
-        }
-        PairAnswer::SheetRefused(r) => outcome::code(r, outcome::OF_SHEET, 0, 0),
-        PairAnswer::Refused(r) => outcome::code(r, outcome::OF_CALL, 0, 0),
+    match pair(map, place, bytes) {
+        Ok(Said::Matched) => outcome::accepted(0, 0),
+        Ok(Said::Hidden) => outcome::accepted(sheet::HIDDEN_PLACE as u32, 0),
+        Ok(Said::Parted { question, start }) => outcome::accepted(question.0 as u32, start as u32),
+        Err(refused) => refused.code(),
     }
 }

@@ -5,31 +5,36 @@ use mathlib.Core.Bool.{Bool, true, false, not, So, cond, ◌&&◌, ◌||◌}
 use mathlib.Core.List.{List, []}
 use mathlib.Core.Logic.{⊎_elim}
 use Prim.Native.Nat.{ℕ, zero, suc, ◌+◌, ◌-◌, ◌*◌, ◌^◌, ◌≤◌, ◌<◌}
-use native.Mathlib.Nat.{mul-le-mul_left, mul-le-mul_right, eq-or-lt_of_le}
+use native.Mathlib.Nat.{mul-le-mul_right, eq-or-lt_of_le}
 use native.Mathlib.Numerals.{add-one}
 use native.Mathlib.Omega.{arith}
 use borrow.Author.Tests.{lt-ltb, le-ltb, ltb-true, le-leb, lt-leb, leb-true, eq-eqb, ne_eqb, not-false, not-true}
 use lib.Dec.{eqb, ltb}
-use lib.ListN.{length, take, drop}
+use Rattle.std.specs.Ordering.{is_lt, is_some_and, nat_cmp, partial_ordering_then}
+use Rattle.std.proofs.Common.{Ordering, Less, Equal, Greater}
+use Rattle.std.specs.Prelude.{Option, Some, Result, Ok, Err}
+use Rattle.outcome.specs.Refused.{number, named, of_part}
+use Rattle.outcome.specs.declared.Refusal.{Refusal}
+use Rattle.outcome.specs.declared.Refused.{Refused}
+use Rattle.outcome.specs.declared.Refusal.TheVariants as says
+use Rattle.outcome.specs.declared.Part.TheVariants as part
+use Rattle.book.specs.declared.LinksPart.{LinksPart}
+use lib.ListN.{length, take, drop, get_or}
 use lib.Pow.{pow_pos}
 use mir.Syntax.{w8}
 use mir.Val.{Fits}
 use Rattle.fields.specs.Fields.{field}
+use Rattle.fields.specs.Laws.{byte}
 use Rattle.fields.specs.Label.{label_width}
-use Rattle.outcome.specs.Outcome.{accepted, refused, code, of_left_book, of_call}
 use Rattle.theory.proofs.TestLaws.{test_eq}
 use Rattle.theory.specs.Graph.{same, compared, link}
 use Rattle.book.specs.BookGraph.{heard, passes, hides, hides_beyond, seen_recording}
 use Rattle.outcome.specs.Refusals.{first_of}
-use Rattle.outcome.specs.RefusalLaws.{first_none, first_some}
-use Rattle.book.specs.Book.{length_of, version_of, most_version, cells_of, links_of, recording_place, recording_at, link_width, link_start, link_place, link_in, link_at, counts_refusal, head_refusal, below, precedes, rises, link_refusal, links_refusal, book_refusal, book_answer, book_outcome, as_link}
-use Rattle.book.specs.AcceptedLaws.{headed, start_most, link_room, book_sizes, book_long, cell_few, answer_accepted, answer_refused}
+use Rattle.outcome.specs.RefusalLaws.{first_none, first_some, judged-err}
+use Rattle.book.specs.Book.{length_of, version_of, most_version, cells_of, links_of, recording_place, recording_at, link_width, link_start, link_place, link_in, link_at, counts_refusal, head_refusal, below, precedes, rises, link_refusal, links_refusal, book_refusal, book_answer, as_link}
+use Rattle.book.specs.AcceptedLaws.{headed, start_most, link_room, book_sizes, book_long, cell_few, answer_accepted}
 use Rattle.book.specs.OutgoingLaws.{before_is, first-before, first-rises, part-accepted, part_room}
-use Rattle.book.specs.BookLinks.{links_before, links_after, first_link, RangeOut, part_from, links_answer, part_of, links_part, links_outcome}
-use Rattle.book.specs.declared.BookAnswer.{BookAnswer}
-use Rattle.book.specs.declared.BookAnswer.TheVariants.{Accepted, Refused}
-use Rattle.book.specs.declared.LinksAnswer.{LinksAnswer}
-use Rattle.book.specs.declared.LinksAnswer.TheVariants.{Part, BookRefused, NoCell}
+use Rattle.book.specs.BookLinks.{links_before, links_after, first_link, RangeOut, part_from, links_answer, part_of, links_part}
 use Rattle.book.specs.declared.BookLink.{BookLink}
 
 -- ---- places
@@ -105,7 +110,7 @@ module _ (s : List ℕ) (n : ℕ) (dn : n ≡ cells_of s) where
 
 -- ---- the fields of link k, in a book whose header is not refused
 module _ (s : List ℕ) (k at : ℕ) (d : at ≡ link_place s k) (z : head_refusal s ≡ 0) (h : k < links_of s) where
-  pub from_room : at + 1 ≤ length s
+  pub from_room : at < length s
   from_room = omega (arith, link_room s (headed s z) k h)
 
   module _ (v : ℕ) (dv : v ≡ version_of s) where
@@ -113,13 +118,13 @@ module _ (s : List ℕ) (k at : ℕ) (d : at ≡ link_place s k) (z : head_refus
     label_room = rw dv (omega (arith, link_room s (headed s z) k h))
 
     module _ (width : ℕ) (dw : width ≡ label_width v) where
-      pub to_room : at + 1 + width + 1 ≤ length s
+      pub to_room : at + 1 + width < length s
       to_room = rw (dw, dv) (omega (arith, link_room s (headed s z) k h))
 
-      pub link_read : (from label to : ℕ) → from ≡ field 1 s at → label ≡ field (label_width v) s (at + 1) → to ≡ field 1 s (at + 1 + width)
-          → link from label to ≡ link_at s k
+      pub link_read : (label : ℕ) → label ≡ field (label_width v) s (at + 1)
+          → link (get_or s at 0) label (get_or s (at + 1 + width) 0) ≡ link_at s k
       unfolding link_at link_in
-      link_read from label to p q r = rw (p, q, r, d, dw, dv)
+      link_read label q = rw (byte s at, byte s (at + 1 + width), q, d, dw, dv)
 
 pub head_long : (s : List ℕ) → head_refusal s ≡ 0 → 8 ≤ length s
 head_long s z = (headed s z).long
@@ -128,32 +133,30 @@ pub head_few : (s : List ℕ) (k : ℕ) → head_refusal s ≡ 0 → k < links_o
 head_few s k z h = omega (arith, (headed s z).most)
 
 -- ---- triples in order
--- where the first numbers are not equal they decide, and otherwise the rest
-pub below_other : (m n : ℕ) (t : Bool) → (m ≡ n → ⊥) → ltb m n ≡ below m n t
+-- what a derived order tells of the first numbers and the rest
+below_is : (m n : ℕ) (rest : Option Ordering) → is_some_and is_lt (partial_ordering_then (Some (nat_cmp m n)) rest) ≡ below m n (is_some_and is_lt rest)
 unfolding below
-below_other m n t f = simp (ne_eqb m n f) (go (ltb m n))
+below_is m n rest = go (ltb m n) (eqb m n)
   where
-    go : (u : Bool) → u ≡ (u || false)
-    go true = refl
-    go false = refl
+    go : (t u : Bool) → is_some_and is_lt (partial_ordering_then (Some (cond t Less (cond u Equal Greater))) rest) ≡ (t || (u && is_some_and is_lt rest))
+    go true u = refl
+    go false true = refl
+    go false false = refl
 
-pub below_equal : (m n : ℕ) (t : Bool) → m ≡ n → t ≡ below m n t
-unfolding below
-below_equal m n t e = simp (eq-eqb m n e, le-ltb m n (omega arith))
+last_is : (m n : ℕ) → is_some_and is_lt (Some (nat_cmp m n)) ≡ ltb m n
+last_is m n = go (ltb m n) (eqb m n)
+  where
+    go : (t u : Bool) → is_some_and is_lt (Some (cond t Less (cond u Equal Greater))) ≡ t
+    go true u = refl
+    go false true = refl
+    go false false = refl
 
-module _ (j k : BookLink) where
-  pub test_from : (j.from ≡ k.from → ⊥) → ltb j.from k.from ≡ precedes (as_link j) (as_link k)
-  unfolding precedes
-  test_from f = below_other _ _ _ f
-
-  module _ (e : j.from ≡ k.from) where
-    pub test_label : (j.label ≡ k.label → ⊥) → ltb j.label k.label ≡ precedes (as_link j) (as_link k)
-    unfolding precedes
-    test_label f = below_other _ _ _ f ∙ below_equal _ _ _ e
-
-    pub test_to : j.label ≡ k.label → ltb j.to k.to ≡ precedes (as_link j) (as_link k)
-    unfolding precedes
-    test_to d = below_equal _ _ _ d ∙ below_equal _ _ _ e
+-- the order of links is that of triples
+pub order_is : (j k : BookLink)
+    → is_some_and is_lt (partial_ordering_then (Some (nat_cmp j.from k.from)) (partial_ordering_then (Some (nat_cmp j.label k.label)) (Some (nat_cmp j.to k.to))))
+    ≡ precedes (as_link j) (as_link k)
+unfolding precedes
+order_is j k = rw (below_is j.from k.from, below_is j.label k.label, last_is j.to k.to)
 
 -- ---- one link
 module _ (s : List ℕ) (k n : ℕ) (dn : n ≡ cells_of s) (l : BookLink) (dl : as_link l ≡ link_at s k) where
@@ -191,24 +194,21 @@ module _ (s : List ℕ) (k n : ℕ) (dn : n ≡ cells_of s) (l : BookLink) (dl :
         link-below e = sym (inside false (after ∙ e))
 
 -- ---- the links, one turn at a time
-module _ (s : List ℕ) (e k : ℕ) (de : e ≡ links_of s) (i : links_refusal s 0 (links_of s) ≡ links_refusal s k (e - k)) where
-  pub links_end : e ≤ k → 0 ≡ links_refusal s 0 (links_of s)
+module _ (s : List ℕ) (k : ℕ) (i : links_refusal s 0 (links_of s) ≡ links_refusal s k (links_of s - k)) where
+  pub links_end : links_of s ≤ k → 0 ≡ links_refusal s 0 (links_of s)
   unfolding links_refusal
-  links_end h = let z : e - k ≡ 0 = omega arith in sym (i ∙ rw z)
+  links_end h = let z : links_of s - k ≡ 0 = omega arith in sym (i ∙ rw z)
 
-  module _ (h : k < e) (r : ℕ) (dr : r ≡ link_refusal s k) where
-    turn : links_refusal s 0 (links_of s) ≡ first_of r (links_refusal s (k + 1) (e - (k + 1)))
+  module _ (h : k < links_of s) (r : ℕ) (dr : r ≡ link_refusal s k) where
+    turn : links_refusal s 0 (links_of s) ≡ first_of r (links_refusal s (k + 1) (links_of s - (k + 1)))
     unfolding links_refusal
-    turn = let z : e - k ≡ suc (e - (k + 1)) = omega arith in i ∙ rw (z, dr, add-one k)
+    turn = let z : links_of s - k ≡ suc (links_of s - (k + 1)) = omega arith in i ∙ rw (z, dr, add-one k)
 
     pub links_stop : (r ≡ 0 → ⊥) → r ≡ links_refusal s 0 (links_of s)
     links_stop f = sym (turn ∙ first_some r _ f)
 
-    pub links_next : r ≡ 0 → links_refusal s 0 (links_of s) ≡ links_refusal s (k + 1) (e - (k + 1))
+    pub links_next : r ≡ 0 → links_refusal s 0 (links_of s) ≡ links_refusal s (k + 1) (links_of s - (k + 1))
     links_next z = turn ∙ first_none r _ z
-
-pub links_start : (s : List ℕ) (e : ℕ) → e ≡ links_of s → links_refusal s 0 (links_of s) ≡ links_refusal s 0 (e - 0)
-links_start s e de = let z : links_of s ≡ e - 0 = omega arith in rw z
 
 -- ---- the whole book
 module _ (s : List ℕ) (h : ℕ) (d : h ≡ head_refusal s) where
@@ -225,32 +225,27 @@ module _ (s : List ℕ) (h : ℕ) (d : h ≡ head_refusal s) where
     refusal_links r dr = rw (← d) (dr ∙ sym (first_none h _ z))
 
 -- ---- an accepted book
-module _ (s : List ℕ) (r : ℕ) (d : r ≡ book_refusal s) where
-  pub check_refused : (r ≡ 0 → ⊥) → Refused r ≡ book_answer s
-  check_refused f = rw d (sym (answer_refused s (λ p. f (d ∙ p))))
+module _ (s : List ℕ) (e : Refusal) (d : number e ≡ book_refusal s) where
+  pub check_refused : Err e ≡ book_answer s
+  unfolding book_answer
+  check_refused = sym (judged-err _ _ e d)
 
-  pub book_refused : (x : ℕ) → (r ≡ 0 → ⊥) → BookRefused r ≡ links_answer s x
+module _ (s : List ℕ) where
+  pub links_refused : (book_refusal s ≡ 0 → ⊥) → (x : ℕ) → Err (of_part part.LeftBook (named (book_refusal s))) ≡ links_answer s x
   unfolding links_answer
-  book_refused x f = rw (← d, ne_eqb r 0 f)
+  links_refused f x = rw (ne_eqb (book_refusal s) 0 f)
 
-  module _ (z : r ≡ 0) where
-    pub book_none : book_refusal s ≡ 0
-    book_none = sym d ∙ z
+module _ (s : List ℕ) (z : book_refusal s ≡ 0) where
+  pub check_accepted : (n e : ℕ) → n ≡ cells_of s → e ≡ links_of s → Ok (record { cells = n; links = e }) ≡ book_answer s
+  check_accepted n e p q = rw (p, q) (sym (answer_accepted s z))
 
-    -- what is asked of its header
-    pub book_reach : (k : ℕ) → k ≤ 8 → k ≤ length s
-    book_reach k l = omega (arith, (book_sizes s book_none).long)
+  pub no_cell : (n x : ℕ) → n ≡ cells_of s → n ≤ x → Err (of_part part.Call says.NoPlace) ≡ links_answer s x
+  unfolding links_answer
+  no_cell n x dn h = rw (eq-eqb (book_refusal s) 0 z, ← dn, le-leb n x h)
 
-    pub check_accepted : (n e : ℕ) → n ≡ cells_of s → e ≡ links_of s → Accepted n e ≡ book_answer s
-    check_accepted n e p q = rw (p, q) (sym (answer_accepted s book_none))
-
-    pub no_cell : (n x : ℕ) → n ≡ cells_of s → n ≤ x → NoCell ≡ links_answer s x
-    unfolding links_answer
-    no_cell n x dn h = rw (← d, eq-eqb r 0 z, ← dn, le-leb n x h)
-
-    pub cell_part : (n x first end : ℕ) (p : LinksAnswer) → n ≡ cells_of s → x < n → RangeOut s x first end → p ≡ part_from s first (end - first) → p ≡ links_answer s x
-    unfolding links_answer
-    cell_part n x first end p dn h g e = rw (← d, eq-eqb r 0 z, ← dn, lt-leb n x h, ← g.first, ← g.end) e
+  pub cell_part : (n x first end : ℕ) (p : LinksPart) → n ≡ cells_of s → x < n → RangeOut s x first end → p ≡ part_from s first (end - first) → Ok p ≡ links_answer s x
+  unfolding links_answer
+  cell_part n x first end p dn h g e = rw (eq-eqb (book_refusal s) 0 z, ← dn, lt-leb n x h, ← g.first, ← g.end, e)
 
 -- ---- the readers
 pub cell_test : (s : List ℕ) (n x : ℕ) → n ≡ cells_of s → ltb x n ≡ ltb x (cells_of s)
@@ -288,29 +283,22 @@ module _ (s : List ℕ) (h x : ℕ) (b : Bool) (d : b ≡ hides h x) where
 pub record Lower (s : List ℕ) (n x k : ℕ) : Type 0 where
   pub each : (j : ℕ) → j < k → field 1 s (link_start s n j) < x
 
-pub lower_none : (s : List ℕ) (n x : ℕ) → Lower s n x 0
-lower_none s n x = record { each = λ j h. absurd (omega arith) }
-
--- a link that is to be read lies whole in the bytes
-pub start_room : (s : List ℕ) (n e k at : ℕ) → link_start s n e ≤ length s → k < e → at ≡ link_start s n k → at + 1 ≤ length s
-start_room s n e k at l h d = omega (arith, mul-le-mul_left (link_width s) h)
-
 module _ (s : List ℕ) (n e x k : ℕ) (i : Lower s n x k) where
   first_is : k ≤ e → (k < e → x ≤ field 1 s (link_start s n k)) → k ≡ links_before x (links_after s n e)
   unfolding link_in
   first_is h f = sym (before_is x e (λ j. link_in (label_width (version_of s)) s (link_start s n j)) k (record { most = h; below = i.each; stop = f }))
 
-  pub first-end : e ≤ k → k ≤ e → k ≡ links_before x (links_after s n e)
-  first-end h l = first_is l (λ m. absurd (omega arith))
+  pub first-end : e ≤ k → k ≤ e → e ≡ links_before x (links_after s n e)
+  first-end h l = let d : k ≡ e = omega arith in sym d ∙ first_is l (λ m. absurd (omega arith))
 
-  module _ (h : k < e) (at from : ℕ) (da : at ≡ link_start s n k) (df : from ≡ field 1 s at) where
-    read : from ≡ field 1 s (link_start s n k)
-    read = rw (← da) df
+  module _ (h : k < e) (at : ℕ) (da : at ≡ link_start s n k) where
+    read : get_or s at 0 ≡ field 1 s (link_start s n k)
+    read = byte s at ∙ ap (field 1 s) da
 
-    pub first_stop : x ≤ from → k ≡ links_before x (links_after s n e)
+    pub first_stop : x ≤ get_or s at 0 → k ≡ links_before x (links_after s n e)
     first_stop g = first_is (omega arith) (λ m. omega (arith, read))
 
-    pub first_next : from < x → Lower s n x (k + 1)
+    pub first_next : get_or s at 0 < x → Lower s n x (k + 1)
     first_next g =
         record { each = λ j m. ⊎_elim (λ q. rw q (omega (arith, read))) (λ o. i.each j o) (eq-or-lt_of_le (omega arith)) }
 
@@ -332,55 +320,35 @@ range_out s x first end p q =
     record { first = p; end = q; rises = rw (p, q) (first-rises s x); most = rw q (first-before s (x + 1)).most }
 
 module _ (s : List ℕ) (k count : ℕ) where
-  pub part_none : count ≡ 0 → Part 0 0 ≡ part_from s k count
+  pub part_none : count ≡ 0 → record { count = 0; start = 0 } ≡ part_from s k count
   unfolding part_from
   part_none z = rw z
 
-  pub part_some : (count ≡ 0 → ⊥) → (start : ℕ) → start ≡ link_place s k → Part count start ≡ part_from s k count
+  pub part_some : (count ≡ 0 → ⊥) → (start : ℕ) → start ≡ link_place s k → record { count = count; start = start } ≡ part_from s k count
   unfolding part_from
   part_some f start d = go count f
     where
-      go : (count : ℕ) → (count ≡ 0 → ⊥) → Part count start ≡ part_from s k count
+      go : (count : ℕ) → (count ≡ 0 → ⊥) → record { count = count; start = start } ≡ part_from s k count
       go zero f = absurd (f refl)
       go (suc count) f = rw d
 
 -- ---- what an answer says, once it is known
-module _ {a : BookAnswer} (s : List ℕ) (d : a ≡ book_answer s) where
-  pub told_counts : (n e v : ℕ) → a ≡ Accepted n e → v ≡ code (accepted n e) → v ≡ code (book_outcome (book_answer s))
-  told_counts n e v p q = rw (← d, p) q
-
-  pub told_refused : (r v : ℕ) → a ≡ Refused r → v ≡ code (refused of_left_book r) → v ≡ code (book_outcome (book_answer s))
-  told_refused r v p q = rw (← d, p) q
-
-module _ {a : LinksAnswer} (s : List ℕ) (x : ℕ) (d : a ≡ links_answer s x) where
-  pub told_part : (n start v : ℕ) → a ≡ Part n start → v ≡ code (accepted n start) → v ≡ code (links_outcome (links_answer s x))
-  told_part n start v p q = rw (← d, p) q
-
-  pub told_book : (r v : ℕ) → a ≡ BookRefused r → v ≡ code (refused of_left_book r) → v ≡ code (links_outcome (links_answer s x))
-  told_book r v p q = rw (← d, p) q
-
-  pub told_cell : (v : ℕ) → a ≡ NoCell → v ≡ code (refused of_call 26) → v ≡ code (links_outcome (links_answer s x))
-  told_cell v p q = rw (← d, p) q
-
-  pub part_book : (r : ℕ) → a ≡ BookRefused r → [] ≡ links_part s x
+module _ {a : Result LinksPart Refused} (s : List ℕ) (x : ℕ) (d : a ≡ links_answer s x) where
+  pub part_refused : (r : Refused) → a ≡ Err r → [] ≡ links_part s x
   unfolding part_of
-  part_book r p = rw (← d, p)
+  part_refused r p = rw (← d, p)
 
-  pub part_cell : a ≡ NoCell → [] ≡ links_part s x
-  unfolding part_of
-  part_cell p = rw (← d, p)
-
-  module _ (n start : ℕ) (p : a ≡ Part n start) where
+  module _ (q : LinksPart) (p : a ≡ Ok q) where
     pub part_long : 8 ≤ length s
-    part_long = book_long s (part-accepted s x n start (sym d ∙ p))
+    part_long = book_long s (part-accepted s x q (sym d ∙ p))
 
     module _ (w : ℕ) (dw : w ≡ link_width s) where
-      pub part_end : start + w * n ≤ length s
-      part_end = rw dw (part_room s x n start (sym d ∙ p))
+      pub part_end : q.start + w * q.count ≤ length s
+      part_end = rw dw (part_room s x q (sym d ∙ p))
 
-      pub part_bytes : take (start + w * n - start) (drop start s) ≡ links_part s x
+      pub part_bytes : take (q.start + w * q.count - q.start) (drop q.start s) ≡ links_part s x
       unfolding part_of
-      part_bytes = let e : start + w * n - start ≡ w * n = omega arith in rw (← d, p, e, dw)
+      part_bytes = let e : q.start + w * q.count - q.start ≡ w * q.count = omega arith in rw (← d, p, e, dw)
 
 -- ---- recordings
 module _ (a b : ℕ) where

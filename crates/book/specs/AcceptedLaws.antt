@@ -1,15 +1,18 @@
 -- What an accepted book is: its sizes, its links in order, and its graph.
-use Rattle.std.specs.Prelude.{Bool, true, false, not, ◌||◌, ◌↔◌, ◌⊎◌, ◌≡◌, refl, List, ℕ, zero, suc, ◌+◌, ◌*◌, ◌≤◌, ◌<◌, eqb, ltb, leb, length, get_or}
+use Rattle.std.specs.Prelude.{Bool, true, false, not, ◌||◌, ◌↔◌, ◌⊎◌, ◌≡◌, refl, List, ℕ, zero, suc, ◌+◌, ◌*◌, ◌≤◌, ◌<◌, eqb, ltb, leb, length, get_or, Result, Ok, Err, IfOk}
 use Rattle.std.proofs.Math.Bool.{So}
-use Rattle.std.proofs.Common.{inl, inr, ⊎_elim, sym, ap₂, ◌∙◌, suc-le-suc, mul-le-mul_left, mul-le-mul_right, le_of_suc-le-suc, eq-or-lt_of_le, le_refl, arith, ltb-false, le-ltb, leb-false, eqb-true, eq-eqb, ne_eqb}
+use Rattle.std.specs.Borrow.{Bor}
+use Rattle.std.proofs.lemmas.Result.{IfOk-at_ok}
+use Rattle.std.proofs.Common.{inl, inr, ⊎_elim, sym, ap, ap₂, ◌∙◌, suc-le-suc, mul-le-mul_left, mul-le-mul_right, le_of_suc-le-suc, eq-or-lt_of_le, le_refl, arith, ltb-false, le-ltb, leb-false, eqb-true, eq-eqb}
 use Rattle.fields.specs.LabelLaws.{label-width}
-use Rattle.outcome.specs.RefusalLaws.{first-zero, passed}
+use Rattle.outcome.specs.Refused.{named}
+use Rattle.outcome.specs.RefusalLaws.{first-zero, passed, judged-ok, judged-some}
 use Rattle.theory.proofs.TestLaws.{and_iff, or_iff, sum_iff, eqb_iff, ltb_iff, list_at}
 use Rattle.theory.specs.Search.{list}
 use Rattle.theory.specs.Graph.{Comparison, Link, Inside}
-use Rattle.book.specs.Book.{length_of, version_of, most_version, cells_of, links_of, recording_at, link_width, link_start, link_place, link_at, counts_refusal, head_refusal, below, precedes, rises, link_refusal, links_refusal, book_refusal, book_answer}
+use Rattle.book.specs.Book.{length_of, version_of, most_version, cells_of, links_of, recording_at, link_width, link_start, link_place, link_at, counts_refusal, head_refusal, below, precedes, rises, link_refusal, links_refusal, book_refusal, counts_of, book_answer}
+use Rattle.book.specs.declared.accepted.Book.{Book}
 use Rattle.book.specs.BookGraph.{passes, book_recordings, book_links, graph_of}
-use Rattle.book.specs.declared.BookAnswer.TheVariants.{Accepted, Refused}
 
 not_false : (t : Bool) → not t ≡ false → So t
 not_false true e = refl
@@ -211,10 +214,15 @@ pub book_ends : (s : List ℕ) (t : Comparison) (x y : ℕ) → x < cells_of s �
 book_ends s t x y h l = ap₂ (passes t) (book_recording s x h) (book_recording s y l)
 
 -- ---- the check's answer
-pub answer_accepted : (s : List ℕ) → book_refusal s ≡ 0 → book_answer s ≡ Accepted (cells_of s) (links_of s)
+pub answer_accepted : (s : List ℕ) → book_refusal s ≡ 0 → book_answer s ≡ Ok (counts_of s)
 unfolding book_answer
-answer_accepted s r = rw (eq-eqb (book_refusal s) 0 r)
+answer_accepted s r = judged-ok _ _ r
 
-pub answer_refused : (s : List ℕ) → (book_refusal s ≡ 0 → ⊥) → book_answer s ≡ Refused (book_refusal s)
+pub answer_refused : (s : List ℕ) → (book_refusal s ≡ 0 → ⊥) → book_answer s ≡ Err (named (book_refusal s))
 unfolding book_answer
-answer_refused s f = rw (ne_eqb (book_refusal s) 0 f)
+answer_refused s f = judged-some _ _ f
+
+-- ---- a book with its proof
+-- is of the bytes that were lent to its check
+pub lent_now : {E : Type 0} {r : Result Book E} {b : Book} (bytes : Bor (List ℕ)) → r ≡ Ok b → IfOk r (λ b. b.bytes ≡ bytes) → b.bytes.now ≡ bytes.now
+lent_now bytes e h = ap (λ x. x.now) (IfOk-at_ok (λ b. b.bytes ≡ bytes) e h)

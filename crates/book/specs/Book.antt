@@ -1,13 +1,15 @@
 -- A book's format (01, "Book bytes" and "Check a book"; 02, 2026-02: "Book version 2"), over the list of its bytes.
-use Rattle.std.specs.Prelude.{Bool, true, not, cond, ◌&&◌, ◌||◌, List, ℕ, zero, suc, ◌+◌, ◌*◌, eqb, ltb, leb, length}
+use Rattle.std.specs.Prelude.{Bool, true, not, cond, ◌&&◌, ◌||◌, List, ℕ, zero, suc, ◌+◌, ◌*◌, eqb, ltb, leb, length, Result, Ok, Err}
 use Rattle.fields.specs.Fields.{field}
 use Rattle.fields.specs.Label.{label_width}
-use Rattle.outcome.specs.Outcome.{Outcome, accepted, refused, of_left_book}
+use Rattle.outcome.specs.Outcome.{Outcome, accepted}
+use Rattle.outcome.specs.Refused.{of_part, declined, judged}
 use Rattle.outcome.specs.Refusals.{first_of}
+use Rattle.outcome.specs.declared.Refusal.{Refusal}
+use Rattle.outcome.specs.declared.Part.TheVariants as part
 use Rattle.theory.specs.Graph.{Link, link}
-use Rattle.book.specs.declared.BookAnswer.{BookAnswer}
-use Rattle.book.specs.declared.BookAnswer.TheVariants.{Accepted, Refused}
 use Rattle.book.specs.declared.BookLink.{BookLink}
+use Rattle.book.specs.declared.Counts.{Counts}
 
 -- "Bytes 0-3: length L of the whole book."
 abbrev pub length_of : List ℕ → ℕ
@@ -98,15 +100,18 @@ links_refusal s k (suc left) = first_of (link_refusal s k) (links_refusal s (suc
 unfoldable pub book_refusal : List ℕ → ℕ
 book_refusal s = first_of (head_refusal s) (links_refusal s 0 (links_of s))
 
+-- n and e, of a list.
+abbrev pub counts_of : List ℕ → Counts
+counts_of s = record { cells = cells_of s; links = links_of s }
+
 -- "Check a book gives n and e", or the first refusal that applies.
-unfoldable pub book_answer : List ℕ → BookAnswer
-book_answer s =
-    cond (eqb (book_refusal s) 0) (Accepted (cells_of s) (links_of s)) (Refused (book_refusal s))
+unfoldable pub book_answer : List ℕ → Result Counts Refusal
+book_answer s = judged (book_refusal s) (counts_of s)
 
 -- 01's numbers of an answer: accepted with n and e, or the refusal of the left or only book.
-abbrev pub book_outcome : BookAnswer → Outcome
-book_outcome (Accepted cells links) = accepted cells links
-book_outcome (Refused refusal) = refused of_left_book refusal
+abbrev pub book_outcome : Result Counts Refusal → Outcome
+book_outcome (Ok counts) = accepted counts.cells counts.links
+book_outcome (Err refusal) = declined (of_part part.LeftBook refusal)
 
 -- A link as the code hands it out.
 abbrev pub as_link : BookLink → Link

@@ -1,14 +1,17 @@
 -- The links out of a cell (01, "Links").
-use Rattle.std.specs.Prelude.{cond, ◌≡◌, List, [], ◌∷◌, ℕ, zero, suc, ◌+◌, ◌-◌, ◌*◌, ◌/◌, ◌≤◌, eqb, ltb, leb, length, take, drop}
+use Rattle.std.specs.Prelude.{cond, ◌≡◌, List, [], ◌∷◌, ℕ, zero, suc, ◌+◌, ◌-◌, ◌*◌, ◌/◌, ◌≤◌, eqb, ltb, leb, length, take, drop, Result, Ok, Err}
 use Rattle.fields.specs.Label.{label_width}
-use Rattle.outcome.specs.Outcome.{Outcome, accepted, refused, of_left_book, of_call}
+use Rattle.outcome.specs.Outcome.{Outcome, accepted}
+use Rattle.outcome.specs.Refused.{named, of_part, declined}
+use Rattle.outcome.specs.declared.Refused.{Refused}
+use Rattle.outcome.specs.declared.Refusal.TheVariants as says
+use Rattle.outcome.specs.declared.Part.TheVariants as part
 use Rattle.theory.specs.Search.{list}
 use Rattle.theory.specs.Graph.{Link}
 use Rattle.theory.specs.Path.{Hop, hop}
 use Rattle.book.specs.Book.{version_of, cells_of, links_of, link_width, link_start, link_place, link_in, book_refusal}
 use Rattle.book.specs.BookGraph.{book_links}
-use Rattle.book.specs.declared.LinksAnswer.{LinksAnswer}
-use Rattle.book.specs.declared.LinksAnswer.TheVariants.{Part, BookRefused, NoCell}
+use Rattle.book.specs.declared.LinksPart.{LinksPart}
 
 -- How many of the links stand before the first whose from cell is not below x.
 unfoldable pub links_before : ℕ → List Link → ℕ
@@ -35,32 +38,30 @@ pub record RangeOut (s : List ℕ) (x start stop : ℕ) : Type 0 where
   pub most : stop ≤ links_of s
 
 -- The part that holds `count` links from link k on: where it starts, 0 where it is empty.
-unfoldable pub part_from : List ℕ → ℕ → ℕ → LinksAnswer
-part_from s k zero = Part 0 0
-part_from s k (suc count) = Part (suc count) (link_place s k)
+unfoldable pub part_from : List ℕ → ℕ → ℕ → LinksPart
+part_from s k zero = record { count = 0; start = 0 }
+part_from s k (suc count) = record { count = suc count; start = link_place s k }
 
 -- The companion answer: the book's refusal; "26 (cell not below n)"; or how many links lead out of cell x, and where they start.
-unfoldable pub links_answer : List ℕ → ℕ → LinksAnswer
+unfoldable pub links_answer : List ℕ → ℕ → Result LinksPart Refused
 links_answer s x =
     cond (eqb (book_refusal s) 0)
-    (cond (leb (cells_of s) x) NoCell (part_from s (first_link s x) (count_out s x)))
-    (BookRefused (book_refusal s))
+    (cond (leb (cells_of s) x) (Err (of_part part.Call says.NoPlace)) (Ok (part_from s (first_link s x) (count_out s x))))
+    (Err (of_part part.LeftBook (named (book_refusal s))))
 
 -- The part of the book that an answer speaks of, empty on a refusal.
-unfoldable pub part_of : List ℕ → LinksAnswer → List ℕ
-part_of s (Part count start) = take (link_width s * count) (drop start s)
-part_of s (BookRefused refusal) = []
-part_of s NoCell = []
+unfoldable pub part_of : List ℕ → Result LinksPart Refused → List ℕ
+part_of s (Ok p) = take (link_width s * p.count) (drop p.start s)
+part_of s (Err refused) = []
 
 -- "Links hands out that part of the book."
 abbrev pub links_part : List ℕ → ℕ → List ℕ
 links_part s x = part_of s (links_answer s x)
 
 -- 01's numbers of an answer: the count and the start; the refusal of the book; or 26, of the call.
-abbrev pub links_outcome : LinksAnswer → Outcome
-links_outcome (Part count start) = accepted count start
-links_outcome (BookRefused refusal) = refused of_left_book refusal
-links_outcome NoCell = refused of_call 26
+abbrev pub links_outcome : Result LinksPart Refused → Outcome
+links_outcome (Ok p) = accepted p.count p.start
+links_outcome (Err refused) = declined refused
 
 -- A link as a hop from its from cell.
 abbrev pub hop_of : Link → Hop

@@ -3,6 +3,7 @@ use Rattle.std.specs.Prelude.{◌≡◌, refl, List, [], ◌∷◌, ◌++◌, ma
 use Rattle.fields.specs.Fields.{field, bytes_of}
 use Rattle.fields.specs.Label.{label_width}
 use Rattle.outcome.specs.Outcome.{Outcome, accepted, refused, of_call, of_left_book}
+use Rattle.outcome.specs.Refused.{judged, named}
 use Rattle.theory.specs.Search.{list}
 use Rattle.theory.specs.Graph.{link}
 use Rattle.words.specs.Words.{bit}
@@ -71,7 +72,7 @@ rows =
 
 -- Every answer is the one wanted.
 pub rows_hold : map (λ (r : Row). r.answer) rows ≡ map (λ (r : Row). r.wanted) rows
-unfolding rows left_book right_book left_book2 bytes_of book_answer book_refusal head_refusal counts_refusal links_refusal link_refusal rises precedes below link_at link_in label_width field links_answer part_from first_link links_before list
+unfolding rows left_book right_book left_book2 bytes_of judged named book_answer book_refusal head_refusal counts_refusal links_refusal link_refusal rises precedes below link_at link_in label_width field links_answer part_from first_link links_before list
 rows_hold = refl
 
 -- The graph of A's left book, and of its right.

@@ -1,6 +1,11 @@
 -- The links out of a cell of an accepted book are one run of its links, and the part that Links hands out holds exactly these.
 --
-use Rattle.std.specs.Prelude.{Bool, true, false, cond, ◌⊎◌, ◌≡◌, List, ◌∷◌, eqb, ltb, leb, drop}
+use Rattle.std.specs.Prelude.{Bool, true, false, cond, ◌⊎◌, ◌≡◌, List, ◌∷◌, eqb, ltb, leb, drop, Result, Ok, Err}
+use Rattle.outcome.specs.Refused.{named, of_part}
+use Rattle.outcome.specs.declared.Refusal.TheVariants as says
+use Rattle.outcome.specs.declared.Part.TheVariants as part
+use Rattle.outcome.specs.declared.Refused.{Refused}
+use Rattle.book.specs.declared.LinksPart.{LinksPart}
 use Rattle.std.proofs.Common.{inl, inr, ⊎_elim, ap₂, ◌∙◌, mul-le-mul_left, le_of_suc-le-suc, mul-zero, arith, length-drop, length-take-le}
 use Rattle.std.proofs.Math.Path.{refl, sym, ap}
 use Prim.Native.Nat.{ℕ, zero, suc, ◌+◌, ◌*◌, ◌/◌, ◌≤◌, ◌<◌, suc-le-suc}
@@ -18,7 +23,6 @@ use Rattle.book.specs.Book.{version_of, cells_of, links_of, link_width, link_pla
 use Rattle.book.specs.BookGraph.{graph_of}
 use Rattle.book.specs.BookLinks.{links_before, first_link, count_out, part_from, links_answer, part_of, links_part, hop_of, hops_in}
 use Rattle.book.specs.AcceptedLaws.{book_sizes, book_from}
-use Rattle.book.specs.declared.LinksAnswer.TheVariants.{Part, BookRefused, NoCell}
 
 -- ---- the links before the first that is not below x
 -- k links are from cells below x, and the next is not
@@ -129,35 +133,29 @@ run_room s r x =
     omega (arith, d.sized, mul-sub (link_width s) (first_link s (x + 1)) (first_link s x))
 
 -- where an answer speaks of a part, the book is accepted
-pub part-accepted : (s : List ℕ) (x count start : ℕ) → links_answer s x ≡ Part count start → book_refusal s ≡ 0
+pub part-accepted : (s : List ℕ) (x : ℕ) (p : LinksPart) → links_answer s x ≡ Ok p → book_refusal s ≡ 0
 unfolding links_answer
-part-accepted s x count start e = go (eqb (book_refusal s) 0) refl e
+part-accepted s x p e = go (eqb (book_refusal s) 0) refl e
   where
     go : (t : Bool) → eqb (book_refusal s) 0 ≡ t
-        → cond t (cond (leb (cells_of s) x) NoCell (part_from s (first_link s x) (count_out s x))) (BookRefused (book_refusal s)) ≡ Part count start
+        → ◌≡◌ {A = Result LinksPart Refused} (cond t (cond (leb (cells_of s) x) (Err (of_part part.Call says.NoPlace)) (Ok (part_from s (first_link s x) (count_out s x)))) (Err (of_part part.LeftBook (named (book_refusal s))))) (Ok p)
         → book_refusal s ≡ 0
     go true d e = eqb-true _ _ d
-    go false d e = absurd (let z : ◌≡◌ {A = ℕ} 0 1 = cc in omega arith)
+    go false d e = cc
 
 -- and the part lies in it
-pub part_room : (s : List ℕ) (x count start : ℕ) → links_answer s x ≡ Part count start → start + link_width s * count ≤ length s
+pub part_room : (s : List ℕ) (x : ℕ) (p : LinksPart) → links_answer s x ≡ Ok p → p.start + link_width s * p.count ≤ length s
 unfolding links_answer part_from
-part_room s x count start e = let r = part-accepted s x count start e in go r (leb (cells_of s) x) (rw (eq-eqb (book_refusal s) 0 r) at e)
+part_room s x p e = let r = part-accepted s x p e in go r (leb (cells_of s) x) (rw (eq-eqb (book_refusal s) 0 r) at e)
   where
-    run : (k m : ℕ) → link_place s k + link_width s * m ≤ length s → part_from s k m ≡ Part count start → start + link_width s * count ≤ length s
-    run k zero h e =
-        let c : count ≡ 0 = cc in
-        let z : start ≡ 0 = cc in
-        rw (c, z, mul-zero (link_width s)) (omega arith)
-    run k (suc m) h e =
-        let c : count ≡ suc m = cc in
-        let z : start ≡ link_place s k = cc in
-        rw (c, z) h
+    run : (k m : ℕ) → link_place s k + link_width s * m ≤ length s → part_from s k m ≡ p → p.start + link_width s * p.count ≤ length s
+    run k zero h e = rw (← e, mul-zero (link_width s)) (omega arith)
+    run k (suc m) h e = rw (← e) h
 
-    go : book_refusal s ≡ 0 → (u : Bool) → cond u NoCell (part_from s (first_link s x) (count_out s x)) ≡ Part count start
-        → start + link_width s * count ≤ length s
+    go : book_refusal s ≡ 0 → (u : Bool) → ◌≡◌ {A = Result LinksPart Refused} (cond u (Err (of_part part.Call says.NoPlace)) (Ok (part_from s (first_link s x) (count_out s x)))) (Ok p)
+        → p.start + link_width s * p.count ≤ length s
     go r true e = absurd (let z : ◌≡◌ {A = ℕ} 0 1 = cc in omega arith)
-    go r false e = run (first_link s x) (count_out s x) (run_room s r x) e
+    go r false e = run (first_link s x) (count_out s x) (run_room s r x) (let z : part_from s (first_link s x) (count_out s x) ≡ p = cc in z)
 
 module _ (s : List ℕ) (r : book_refusal s ≡ 0) (x : ℕ) (h : x < cells_of s) where
   -- what Links hands out are the bytes of the links from the first out of x on
@@ -165,7 +163,7 @@ module _ (s : List ℕ) (r : book_refusal s ≡ 0) (x : ℕ) (h : x < cells_of s
   unfolding links_answer part_from part_of
   part_is = rw (eq-eqb (book_refusal s) 0 r, lt-leb (cells_of s) x h) (go (count_out s x))
     where
-      go : (m : ℕ) → part_of s (part_from s (first_link s x) m) ≡ take (link_width s * m) (drop (link_place s (first_link s x)) s)
+      go : (m : ℕ) → part_of s (Ok (part_from s (first_link s x) m)) ≡ take (link_width s * m) (drop (link_place s (first_link s x)) s)
       go zero = rw (mul-zero (link_width s))
       go (suc m) = refl
 

@@ -10,7 +10,12 @@ use borrow.Author.Tests.{lt-ltb, le-ltb, eq-eqb, ne_eqb}
 use lib.ListN.{length, get_or, drop, replicate, take-append-drop}
 use lib.Seq.{sets}
 use Rattle.theory.specs.Bisimulation.{sides_of}
+use Rattle.std.specs.Prelude.{Result, Ok, Err}
 use Rattle.outcome.specs.Outcome.{code}
+use Rattle.outcome.specs.Refused.{named, of_part}
+use Rattle.outcome.specs.declared.Refusal.TheVariants as says
+use Rattle.outcome.specs.declared.Part.TheVariants as part
+use Rattle.outcome.specs.declared.Refused.{Refused}
 use Rattle.book.specs.declared.Hidden.{Hidden}
 use Rattle.book.specs.Book.{cells_of, book_refusal}
 use Rattle.book.specs.BookGraph.{hides_beyond}
@@ -28,9 +33,8 @@ use Rattle.compare_laws.proofs.Theorems.{compared_writable, compared_room}
 use Rattle.compare_entries.specs.declared.Pen.{Pen}
 use Rattle.compare_lists.specs.BookSetting.{sheet_version, setting_of}
 use Rattle.compare_lists.specs.Comparing.{Lent, Fills}
-use Rattle.compare.specs.declared.CompareAnswer.{CompareAnswer}
-use Rattle.compare.specs.declared.CompareAnswer.TheVariants as says
-use Rattle.compare.specs.Compare.{pairs_of, scratch_needed, lent_answer, compare_answer, compare_outcome, compared_map, compared_sheet, Lists, left_by, right_answer, lent, IsCompare, IsCompareCode}
+use Rattle.compare.specs.declared.Compared.{Compared as Done}
+use Rattle.compare.specs.Compare.{pairs_of, scratch_needed, serves, lent_answer, compare_answer, compare_outcome, compared_map, compared_sheet, Lists, left_by, right_answer, lent, IsCompare, IsCompareCode}
 use Rattle.compare.specs.Promises.{Given, map_places, sheet_fits}
 use Rattle.compare.specs.Laws.{books_accepted, accepts_compared, compared_accepts, room_most, pairs_most}
 
@@ -40,7 +44,7 @@ lists_ext p q r = λ i. record { map = p i; room = q i; scratch = r i }
 
 -- ---- the sheet, once its header is written
 
-module _ {both : Bool} {l r : List ℕ} {c : ℕ} {hidden : Hidden} {map : List ℕ} {room : List ℕ} (given : Lent l r c hidden map room) {map' filled : List ℕ} {pen : Pen}
+module _ {both : Bool} {l r : List ℕ} {c : ℕ} {hidden : Hidden} {map : List ℕ} {room : List ℕ} (left_good : book_refusal l ≡ 0) (right_good : book_refusal r ≡ 0) (given : Lent l r c hidden map room) {map' filled : List ℕ} {pen : Pen}
     (t : Fills both l r c hidden room filled pen map') where
   entries : List Entry
   entries = t.finished.entries
@@ -63,10 +67,10 @@ module _ {both : Bool} {l r : List ℕ} {c : ℕ} {hidden : Hidden} {map : List 
   pub sheet_narrow : pen.at < 2 ^ 32
   sheet_narrow =
       let h = compared_room t.comparable compared in
-      omega (arith, sheet_length, room_most (sheet_version l r) _ 4096 (pairs_most l r given.left_accepted given.right_accepted))
+      omega (arith, sheet_length, room_most (sheet_version l r) _ 4096 (pairs_most l r left_good right_good))
 
   pub count-narrow : (count : ℕ) → count ≡ zeros map' → count < 2 ^ 32
-  count-narrow count e = omega (arith, zeros-nonzeros map', compared.size, pairs_most l r given.left_accepted given.right_accepted)
+  count-narrow count e = omega (arith, zeros-nonzeros map', compared.size, pairs_most l r left_good right_good)
 
   -- what is defined is what is there
   sheet_is : sheet_bytes (sheet_version l r) c entries ≡ compared_sheet (sides_of both) l r c hidden
@@ -86,13 +90,13 @@ module _ {both : Bool} {l r : List ℕ} {c : ℕ} {hidden : Hidden} {map : List 
 
     -- Compare has served the caller
     pub all_served : {scratch scratch' : List ℕ} {count : ℕ} → scratch_needed (pairs_of l r) ≤ length scratch → scratch' ≡ replicate (length scratch) 0 → count ≡ zeros map'
-        → IsCompare (sides_of both) l r c hidden (lent map room scratch) (says.Compared pen.at count) (lent map' room' scratch')
+        → IsCompare (sides_of both) l r c hidden (lent map room scratch) (serves pen.at count) (lent map' room' scratch')
     unfolding left_by
     all_served h z n =
         let told = accepts_compared l r c hidden (length map) (length room) _ (length (compared_sheet (sides_of both) l r c hidden)) (zeros (compared_map (sides_of both) l r c hidden)) (record {
           bound = given.bound;
-          left = given.left_accepted;
-          right = given.right_accepted;
+          left = left_good;
+          right = right_good;
           left_word = given.left_word;
           right_word = given.right_word;
           map = given.places;
@@ -100,7 +104,7 @@ module _ {both : Bool} {l r : List ℕ} {c : ℕ} {hidden : Hidden} {map : List 
           spare = h;
         }) in
         record {
-          answer = ap₂ says.Compared (sym sheet_length ∙ ap length sheet_is) (n ∙ ap zeros compared.places) ∙ sym told;
+          answer = ap₂ serves (sym sheet_length ∙ ap length sheet_is) (n ∙ ap zeros compared.places) ∙ sym told;
           lists = rw told (lists_ext compared.places room_is z);
         }
 
@@ -120,7 +124,7 @@ module _ (l r : List ℕ) (n m : ℕ) (d : n ≡ cells_of l) (e : m ≡ cells_of
     pub all_lent : (c : ℕ) (hidden : Hidden) → hides_beyond hidden.left l ≡ false → hides_beyond hidden.right r ≡ false → (map room : List ℕ) (v needed : ℕ) → v ≡ sheet_version l r → needed ≡ room_needed v (n * m) → c ≤ most_bound → length map ≡ n * m → needed ≤ length room
         → Lent l r c hidden map room
     all_lent c hidden lw rw' map room v needed dv k low places roomy =
-        record { left_accepted = left; right_accepted = right; left_word = lw; right_word = rw'; bound = low; places = rw (d, e) at places; roomy = rw (k, dv, d, e) at roomy }
+        record { left_word = lw; right_word = rw'; bound = low; places = rw (d, e) at places; roomy = rw (k, dv, d, e) at roomy }
 
 -- the room that is asked for
 module _ (v size pairs : ℕ) (d : size ≡ step_width v * 8) (h : pairs ≤ 4096) where
@@ -130,110 +134,75 @@ module _ (v size pairs : ℕ) (d : size ≡ step_width v * 8) (h : pairs ≤ 409
   pub room_small : 10 + (20 + size) * pairs ≤ 10 + 52 * 4096
   room_small = rw room_is_needed (room_most v pairs 4096 h)
 
--- ---- what the judging of what is lent asks
-
-pub none_refused : (none : ℕ) (s : List ℕ) → none ≡ book_refusal s → none ≡ 0 → book_refusal s ≡ 0
-none_refused none s d z = sym d ∙ z
-
-pub none_beyond : (w : Bool) (h : ℕ) (s : List ℕ) → w ≡ hides_beyond h s → w ≡ false → hides_beyond h s ≡ false
-none_beyond w h s d z = sym d ∙ z
-
 -- ---- what is declined
 
 module _ (both : Bool) (l r : List ℕ) (c : ℕ) (hidden : Hidden) (b : Lists) where
-  declined : (a : CompareAnswer) → right_answer (sides_of both) l r c hidden b ≡ a → b ≡ left_by (sides_of both) l r c hidden b a → IsCompare (sides_of both) l r c hidden b a b
+  declined : (a : Result Done Refused) → right_answer (sides_of both) l r c hidden b ≡ a → b ≡ left_by (sides_of both) l r c hidden b a → IsCompare (sides_of both) l r c hidden b a b
   declined a e k = record { answer = sym e; lists = rw e k }
 
-  pub bound_above : most_bound < c → IsCompare (sides_of both) l r c hidden b says.BoundAbove b
+  pub bound_above : most_bound < c → IsCompare (sides_of both) l r c hidden b (Err (of_part part.Call says.BoundAbove)) b
   unfolding compare_answer left_by
-  bound_above h = declined says.BoundAbove (simp (lt-ltb most_bound c h)) refl
+  bound_above h = declined (Err (of_part part.Call says.BoundAbove)) (simp (lt-ltb most_bound c h)) refl
 
   module _ (low : c ≤ most_bound) where
-    pub left_refused : (refusal : ℕ) → refusal ≡ book_refusal l → (refusal ≡ 0 → ⊥) → IsCompare (sides_of both) l r c hidden b (says.LeftRefused refusal) b
+    pub left_refused : (f : Refused) → f ≡ of_part part.LeftBook (named (book_refusal l)) → (book_refusal l ≡ 0 → ⊥) → IsCompare (sides_of both) l r c hidden b (Err f) b
     unfolding compare_answer left_by
-    left_refused refusal e f = rw e (declined (says.LeftRefused (book_refusal l)) (simp (le-ltb most_bound c low, ne_eqb (book_refusal l) 0 (rw e at f))) refl)
+    left_refused f d z = rw d (declined _ (simp (le-ltb most_bound c low, ne_eqb (book_refusal l) 0 z)) refl)
 
     -- none of the left book
-    pub right_refused : (none refusal : ℕ) → none ≡ book_refusal l → none ≡ 0 → refusal ≡ book_refusal r → (refusal ≡ 0 → ⊥)
-        → IsCompare (sides_of both) l r c hidden b (says.RightRefused refusal) b
-    unfolding compare_answer left_by
-    right_refused none refusal d z e f =
-        rw e (declined (says.RightRefused (book_refusal r)) (simp (le-ltb most_bound c low, eq-eqb (book_refusal l) 0 (sym d ∙ z), ne_eqb (book_refusal r) 0 (rw e at f))) refl)
-
-    -- none of either book, and a word that hides what is no cell
-    module _ (none none' : ℕ) (dl : none ≡ book_refusal l) (zl : none ≡ 0) (dr : none' ≡ book_refusal r) (zr : none' ≡ 0) (w : Bool) (d : w ≡ hides_beyond hidden.left l) where
-      pub left-hidden : w ≡ true → IsCompare (sides_of both) l r c hidden b says.LeftHidden b
+    module _ (left : book_refusal l ≡ 0) where
+      pub right_refused : (f : Refused) → f ≡ of_part part.RightBook (named (book_refusal r)) → (book_refusal r ≡ 0 → ⊥) → IsCompare (sides_of both) l r c hidden b (Err f) b
       unfolding compare_answer left_by
-      left-hidden e =
-          declined says.LeftHidden (simp (le-ltb most_bound c low, eq-eqb (book_refusal l) 0 (sym dl ∙ zl), eq-eqb (book_refusal r) 0 (sym dr ∙ zr), sym d ∙ e)) refl
+      right_refused f d z = rw d (declined _ (simp (le-ltb most_bound c low, eq-eqb (book_refusal l) 0 left, ne_eqb (book_refusal r) 0 z)) refl)
 
-      pub right-hidden : w ≡ false → (v : Bool) → v ≡ hides_beyond hidden.right r → v ≡ true → IsCompare (sides_of both) l r c hidden b says.RightHidden b
-      unfolding compare_answer left_by
-      right-hidden z v f e =
-          declined says.RightHidden
-          (simp (le-ltb most_bound c low, eq-eqb (book_refusal l) 0 (sym dl ∙ zl), eq-eqb (book_refusal r) 0 (sym dr ∙ zr), sym d ∙ z, sym f ∙ e)) refl
+      -- none of either book, and a word that hides what is no cell
+      module _ (right : book_refusal r ≡ 0) (w : Bool) (d : w ≡ hides_beyond hidden.left l) where
+        pub left-hidden : w ≡ true → IsCompare (sides_of both) l r c hidden b (Err (of_part part.LeftBook says.HiddenBeyond)) b
+        unfolding compare_answer left_by
+        left-hidden e = declined _ (simp (le-ltb most_bound c low, eq-eqb (book_refusal l) 0 left, eq-eqb (book_refusal r) 0 right, sym d ∙ e)) refl
+
+        pub right-hidden : w ≡ false → (v : Bool) → v ≡ hides_beyond hidden.right r → v ≡ true
+            → IsCompare (sides_of both) l r c hidden b (Err (of_part part.RightBook says.HiddenBeyond)) b
+        unfolding compare_answer left_by
+        right-hidden z v f e =
+            declined _ (simp (le-ltb most_bound c low, eq-eqb (book_refusal l) 0 left, eq-eqb (book_refusal r) 0 right, sym d ∙ z, sym f ∙ e)) refl
 
     module _ (left : book_refusal l ≡ 0) (right : book_refusal r ≡ 0) (lw : hides_beyond hidden.left l ≡ false) (rw' : hides_beyond hidden.right r ≡ false)
         (n m : ℕ) (d : n ≡ cells_of l) (e : m ≡ cells_of r) where
       -- what is lent is judged by the number of pairs
-      lent_declined : (a : CompareAnswer) → lent_answer (sheet_version l r) (n * m) (length b.map) (length b.room) (length b.scratch) (length (compared_sheet (sides_of both) l r c hidden)) (zeros (compared_map (sides_of both) l r c hidden)) ≡ a
+      lent_declined : (a : Result Done Refused) → lent_answer (sheet_version l r) (n * m) (length b.map) (length b.room) (length b.scratch) (length (compared_sheet (sides_of both) l r c hidden)) (zeros (compared_map (sides_of both) l r c hidden)) ≡ a
           → b ≡ left_by (sides_of both) l r c hidden b a → IsCompare (sides_of both) l r c hidden b a b
       lent_declined a k = declined a (books_accepted l r c hidden _ _ _ _ _ low left right lw rw' ∙ rw (d, e) at k)
 
-      pub map-length : (length b.map ≡ n * m → ⊥) → IsCompare (sides_of both) l r c hidden b says.MapLength b
+      pub map-length : (length b.map ≡ n * m → ⊥) → IsCompare (sides_of both) l r c hidden b (Err (of_part part.Call says.MapLength)) b
       unfolding lent_answer left_by
-      map-length f = lent_declined says.MapLength (simp (ne_eqb (length b.map) (n * m) f)) refl
+      map-length f = lent_declined _ (simp (ne_eqb (length b.map) (n * m) f)) refl
 
       module _ (places : length b.map ≡ n * m) (v needed : ℕ) (dv : v ≡ sheet_version l r) (k : needed ≡ room_needed v (n * m)) where
-        pub few_room : length b.room < needed → IsCompare (sides_of both) l r c hidden b says.FewRoom b
+        pub few_room : length b.room < needed → IsCompare (sides_of both) l r c hidden b (Err (of_part part.Call says.FewRoom)) b
         unfolding lent_answer left_by
-        few_room h = lent_declined says.FewRoom (simp (eq-eqb (length b.map) (n * m) places, lt-ltb (length b.room) (room_needed (sheet_version l r) (n * m)) (rw (k, dv) at h))) refl
+        few_room h = lent_declined _ (simp (eq-eqb (length b.map) (n * m) places, lt-ltb (length b.room) (room_needed (sheet_version l r) (n * m)) (rw (k, dv) at h))) refl
 
         module _ (roomy : needed ≤ length b.room) where
-          pub few_scratch : length b.scratch < scratch_needed (n * m) → IsCompare (sides_of both) l r c hidden b says.FewScratch b
+          pub few_scratch : length b.scratch < scratch_needed (n * m) → IsCompare (sides_of both) l r c hidden b (Err (of_part part.Call says.FewScratch)) b
           unfolding lent_answer left_by
           few_scratch h =
-              lent_declined says.FewScratch
+              lent_declined _
               (simp (eq-eqb (length b.map) (n * m) places, le-ltb (length b.room) (room_needed (sheet_version l r) (n * m)) (rw (k, dv) at roomy), lt-ltb (length b.scratch) (scratch_needed (n * m)) h)) refl
 
 -- ---- as one number
 
--- what a match has found is the answer
-pub compare_number : (a b : CompareAnswer) (v : ℕ) → a ≡ b → v ≡ code (compare_outcome b) → v ≡ code (compare_outcome a)
-compare_number a b v d e = e ∙ ap (λ x. code (compare_outcome x)) (sym d)
-
--- its values have room in their bits
-module _ (a : CompareAnswer) (sheet count : ℕ) (d : a ≡ says.Compared sheet count) where
-  pub sheet_bits : (compare_outcome a).first < 2 ^ 24 → sheet < 2 ^ 24
-  sheet_bits h = rw d at h
-
-  pub count_bits : (compare_outcome a).second < 2 ^ 24 → count < 2 ^ 24
-  count_bits h = rw d at h
-
-module _ (both : Bool) (l r : List ℕ) (c : ℕ) (hidden : Hidden) (before now : Lists) (a : CompareAnswer) (t : IsCompare (sides_of both) l r c hidden before a now) where
-  module _ (bl : (i : ℕ) → Fits w8 (get_or l i 0)) (br : (i : ℕ) → Fits w8 (get_or r i 0)) where
-    -- the values of an answer
-    values : (x : CompareAnswer) → x ≡ right_answer (sides_of both) l r c hidden before → ((compare_outcome x).first < 2 ^ 24) × ((compare_outcome x).second < 2 ^ 24)
-    values (says.Compared sheet count) e =
-        let (g, d, n) = compared_accepts l r c hidden _ _ _ _ _ sheet count e in
+module _ (both : Bool) (l r : List ℕ) (c : ℕ) (hidden : Hidden) (before now : Lists) where
+  -- the values of an answer have room in their bits
+  module _ (done : Done) (t : IsCompare (sides_of both) l r c hidden before (Ok done) now) (bl : (i : ℕ) → Fits w8 (get_or l i 0)) (br : (i : ℕ) → Fits w8 (get_or r i 0)) where
+    pub values : (done.sheet < 2 ^ 24) × (done.matched < 2 ^ 24)
+    values =
+        let (g, d, n) = compared_accepts l r c hidden _ _ _ _ _ done.sheet done.matched t.answer in
         let books : Given l r c =
         record { bytes = (record { each = λ i. (bl i).fits }, record { each = λ i. (br i).fits }); left = g.left; right = g.right; bound = g.bound } in
         let most = pairs_most l r g.left g.right in
         (omega (arith, d, sheet_fits (sides_of both) hidden books, room_most (sheet_version l r) _ 4096 most), omega (arith, n, zeros-nonzeros (compared_map (sides_of both) l r c hidden), map_places (sides_of both) hidden books))
-    values says.BoundAbove e = (omega arith, omega arith)
-    values (says.LeftRefused refusal) e = (omega arith, omega arith)
-    values (says.RightRefused refusal) e = (omega arith, omega arith)
-    values says.LeftHidden e = (omega arith, omega arith)
-    values says.RightHidden e = (omega arith, omega arith)
-    values says.MapLength e = (omega arith, omega arith)
-    values says.FewRoom e = (omega arith, omega arith)
-    values says.FewScratch e = (omega arith, omega arith)
 
-    pub first_small : (compare_outcome a).first < 2 ^ 24
-    first_small = (values a t.answer).0
-
-    pub second_small : (compare_outcome a).second < 2 ^ 24
-    second_small = (values a t.answer).1
-
-  pub compare_coded : (v : ℕ) → v ≡ code (compare_outcome a) → IsCompareCode (sides_of both) l r c hidden before v now
-  compare_coded v e = record { answer = e ∙ ap (λ a. code (compare_outcome a)) t.answer; lists = t.lists }
+  pub compare_coded : (a : Result Done Refused) → IsCompare (sides_of both) l r c hidden before a now → (v : ℕ) → v ≡ code (compare_outcome a)
+      → IsCompareCode (sides_of both) l r c hidden before v now
+  compare_coded a t v e = record { answer = e ∙ ap (λ a. code (compare_outcome a)) t.answer; lists = t.lists }

@@ -1,7 +1,7 @@
 -- When Compare declines and when it does not, and what its values are at most.
-use Rattle.std.specs.Prelude.{false, not, List, ℕ, ◌+◌, ◌*◌, ◌≤◌, eqb, ltb}
+use Rattle.std.specs.Prelude.{false, not, List, ℕ, ◌+◌, ◌*◌, ◌≤◌, eqb, ltb, Result, Ok, Err}
 use Rattle.std.proofs.Math.Path.{◌≡◌}
-use Rattle.std.proofs.Common.{sym, ◌∙◌, mul-le-mul, arith}
+use Rattle.std.proofs.Common.{sym, ap, ◌∙◌, mul-le-mul, arith}
 use borrow.Author.Tests.{le-ltb, ltb-false, eq-eqb, eqb-true, not-false}
 use Rattle.fields.specs.LabelLaws.{label-width}
 use Rattle.outcome.specs.RefusalLaws.{passed_by}
@@ -11,9 +11,19 @@ use Rattle.book.specs.BookGraph.{hides_beyond}
 use Rattle.book.specs.AcceptedLaws.{book_sizes}
 use Rattle.sheet.specs.Sheet.{most_bound}
 use Rattle.compare_laws.specs.Room.{pair_bytes, room_needed}
+use Rattle.outcome.specs.declared.Refused.{Refused}
 use Rattle.compare_lists.specs.BookSetting.{sheet_version}
-use Rattle.compare.specs.declared.CompareAnswer.TheVariants as says
-use Rattle.compare.specs.Compare.{pairs_of, scratch_needed, lent_answer, compare_answer, Accepts}
+use Rattle.compare.specs.declared.Compared.{Compared}
+use Rattle.compare.specs.Compare.{pairs_of, scratch_needed, serves, lent_answer, compare_answer, Accepts}
+
+-- the values of an answer, 0 where it is a refusal
+abbrev sheet_told : Result Compared Refused → ℕ
+sheet_told (Ok done) = done.sheet
+sheet_told (Err _) = 0
+
+abbrev count_told : Result Compared Refused → ℕ
+count_told (Ok done) = done.matched
+count_told (Err _) = 0
 
 module _ (l r : List ℕ) (c : ℕ) (hidden : Hidden) (places room scratch sheet count : ℕ) where
   -- where only what is lent is still to be judged
@@ -23,14 +33,14 @@ module _ (l r : List ℕ) (c : ℕ) (hidden : Hidden) (places room scratch sheet
   books_accepted bound left right lw rw' = simp (le-ltb most_bound c bound, eq-eqb (book_refusal l) 0 left, eq-eqb (book_refusal r) 0 right, lw, rw')
 
   -- where nothing is to be declined Compare answers,
-  pub accepts_compared : Accepts l r c hidden places room scratch → compare_answer l r c hidden places room scratch sheet count ≡ says.Compared sheet count
+  pub accepts_compared : Accepts l r c hidden places room scratch → compare_answer l r c hidden places room scratch sheet count ≡ serves sheet count
   unfolding lent_answer
   accepts_compared g =
       books_accepted g.bound g.left g.right g.left_word g.right_word
       ∙ simp (eq-eqb places (pairs_of l r) g.map, le-ltb room (room_needed (sheet_version l r) (pairs_of l r)) g.roomy, le-ltb scratch (scratch_needed (pairs_of l r)) g.spare)
 
   -- and only then, with these values
-  pub compared_accepts : (sheet' count' : ℕ) → says.Compared sheet' count' ≡ compare_answer l r c hidden places room scratch sheet count
+  pub compared_accepts : (sheet' count' : ℕ) → serves sheet' count' ≡ compare_answer l r c hidden places room scratch sheet count
       → Accepts l r c hidden places room scratch × (sheet' ≡ sheet) × (count' ≡ count)
   unfolding compare_answer lent_answer
   compared_accepts sheet' count' h =
@@ -52,8 +62,8 @@ module _ (l r : List ℕ) (c : ℕ) (hidden : Hidden) (places room scratch sheet
           roomy = ltb-false _ _ roomy;
           spare = ltb-false _ _ spare;
         },
-        cc,
-        cc,
+        sym (ap sheet_told h8),
+        sym (ap count_told h8),
       )
 
 -- the room that at most so many pairs need, in any version

@@ -1,41 +1,42 @@
--- What Compare answers has room in an outcome's bits.
-use Rattle.std.specs.Prelude.{not, List, ℕ, ◌*◌, eqb, ltb, length}
-use Rattle.std.proofs.Common.{arith, ltb-false, eqb-true}
-use Rattle.std.proofs.lemmas.Bool.{not-false}
+-- What Compare answers has room in an outcome's bits, and tells the refusal of a book by its number.
+use Rattle.std.specs.Prelude.{◌≡◌, refl, List, ℕ, ◌^◌, ◌<◌, length, Result, Ok, Err}
+use Rattle.std.proofs.Common.{ap, arith}
 use Rattle.fields.specs.Fields.{Bytes}
-use Rattle.outcome.specs.Outcome.{Fits, of_call, of_left_book, of_right_book}
-use Rattle.outcome.specs.OutcomeLaws.{accepted_fits, refused_fits}
-use Rattle.outcome.specs.RefusalLaws.{either}
+use Rattle.outcome.specs.Outcome.{Fits, refused, of_left_book, of_right_book}
+use Rattle.outcome.specs.OutcomeLaws.{accepted_fits, declined_fits}
+use Rattle.outcome.specs.Refused.{named, of_part}
+use Rattle.outcome.specs.declared.Part.TheVariants as part
+use Rattle.outcome.specs.declared.Refused.{Refused}
 use Rattle.theory.specs.Bisimulation.{Sides}
 use Rattle.book.specs.declared.Hidden.{Hidden}
 use Rattle.book.specs.Book.{book_refusal}
-use Rattle.book.specs.BookGraph.{hides_beyond}
-use Rattle.book.specs.OutcomeLaws.{book_refusal_most}
-use Rattle.compare_laws.specs.Room.{room_needed}
+use Rattle.book.specs.OutcomeLaws.{book_named}
 use Rattle.compare_laws.specs.Places.{zeros}
 use Rattle.compare_laws.proofs.PlaceLaws.{zeros-nonzeros}
 use Rattle.compare_lists.specs.BookSetting.{sheet_version}
-use Rattle.compare.specs.declared.CompareAnswer.{CompareAnswer}
-use Rattle.compare.specs.Compare.{pairs_of, lent_answer, compare_answer, compare_outcome, compared_map, compared_sheet, Lists, right_answer}
-use Rattle.compare.specs.Laws.{room_most, pairs_most}
+use Rattle.compare.specs.declared.Compared.{Compared}
+use Rattle.compare.specs.Compare.{pairs_of, serves, compare_outcome, compared_map, compared_sheet, Lists, right_answer}
+use Rattle.compare.specs.Laws.{compared_accepts, room_most, pairs_most}
 use Rattle.compare.specs.Promises.{Given, map_places, sheet_fits}
 
 -- Compare: the sheet's length and the number of zeros; 20, the refusal of a book, 31 among them, or 21 to 23.
 pub compare_fits : (x : Sides) (l r : List ℕ) (c : ℕ) (hidden : Hidden) (before : Lists) → Bytes l × Bytes r → Fits (compare_outcome (right_answer x l r c hidden before))
-unfolding compare_answer lent_answer
-compare_fits x l r c hidden before bytes =
-    let P : CompareAnswer → Type 0 = λ a. Fits (compare_outcome a) in
-    let pairs = pairs_of l r in
-    either P (ltb 4 c) (λ _. refused_fits of_call 20 (omega arith) (omega arith)) (λ bound.
-    either P (not (eqb (book_refusal l) 0)) (λ _. refused_fits of_left_book (book_refusal l) (omega arith) (omega (arith, book_refusal_most l))) (λ left.
-    either P (not (eqb (book_refusal r) 0)) (λ _. refused_fits of_right_book (book_refusal r) (omega arith) (omega (arith, book_refusal_most r))) (λ right.
-    either P (hides_beyond hidden.left l) (λ _. refused_fits of_left_book 31 (omega arith) (omega arith)) (λ _.
-    either P (hides_beyond hidden.right r) (λ _. refused_fits of_right_book 31 (omega arith) (omega arith)) (λ _.
-    either P (not (eqb (length before.map) pairs)) (λ _. refused_fits of_call 21 (omega arith) (omega arith)) (λ _.
-    either P (ltb (length before.room) (room_needed (sheet_version l r) pairs)) (λ _. refused_fits of_call 22 (omega arith) (omega arith)) (λ _.
-    either P (ltb (length before.scratch) (16 * pairs)) (λ _. refused_fits of_call 23 (omega arith) (omega arith)) (λ _.
-    let books : Given l r c =
-    record { bytes = bytes; left = eqb-true _ _ (not-false _ left); right = eqb-true _ _ (not-false _ right); bound = ltb-false 4 c bound } in
-    let most = pairs_most l r books.left books.right in
-    accepted_fits (length (compared_sheet x l r c hidden)) (zeros (compared_map x l r c hidden))
-    (omega (arith, sheet_fits x hidden books, room_most (sheet_version l r) pairs 4096 most)) (omega (arith, zeros-nonzeros (compared_map x l r c hidden), map_places x hidden books))))))))))
+compare_fits x l r c hidden before bytes = of (right_answer x l r c hidden before) refl
+  where
+    of : (a : Result Compared Refused) → a ≡ right_answer x l r c hidden before → Fits (compare_outcome a)
+    of (Err r) e = declined_fits r
+    of (Ok done) e =
+        let (g, d, n) = compared_accepts l r c hidden _ _ _ _ _ done.sheet done.matched e in
+        let books : Given l r c = record { bytes = bytes; left = g.left; right = g.right; bound = g.bound } in
+        let most = pairs_most l r g.left g.right in
+        accepted_fits done.sheet done.matched
+        (omega (arith, d, sheet_fits x hidden books, room_most (sheet_version l r) (pairs_of l r) 4096 most))
+        (omega (arith, n, zeros-nonzeros (compared_map x l r c hidden), map_places x hidden books))
+
+-- the refusal of the left book is told as the papers number it,
+pub left_told : (l : List ℕ) → (book_refusal l ≡ 0 → ⊥) → compare_outcome (Err (of_part part.LeftBook (named (book_refusal l)))) ≡ refused of_left_book (book_refusal l)
+left_told l f = ap (refused of_left_book) (book_named l f)
+
+-- and that of the right one
+pub right_told : (r : List ℕ) → (book_refusal r ≡ 0 → ⊥) → compare_outcome (Err (of_part part.RightBook (named (book_refusal r)))) ≡ refused of_right_book (book_refusal r)
+right_told r f = ap (refused of_right_book) (book_named r f)

@@ -1,5 +1,5 @@
 -- What 01 says of the map and the sheet, as theorems about their definition: for accepted books and a bound of at most 4, whatever code computes them.
-use Rattle.std.specs.Prelude.{Bool, true, false, ◌||◌, List, ◌++◌, ◌↔◌, ◌≢◌, ◌≡◌, refl, ℕ, ◌≤◌, ◌<◌, length, take}
+use Rattle.std.specs.Prelude.{Bool, true, false, ◌||◌, List, ◌++◌, ◌↔◌, ◌≢◌, ◌≡◌, refl, ℕ, ◌≤◌, ◌<◌, length, take, Ok}
 use Rattle.std.proofs.lemmas.Bool.{false≢true}
 use Rattle.std.proofs.Common.{sym, ap, ap₂, ◌∙◌, arith, take_at}
 use Rattle.fields.specs.Fields.{Bytes}
@@ -17,10 +17,9 @@ use Rattle.book.specs.Book.{cells_of, book_refusal}
 use Rattle.book.specs.BookGraph.{hides, seen_of, Cell}
 use Rattle.book.specs.Contents.{SameContents}
 use Rattle.book.specs.VersionLaws.{same_seen}
-use Rattle.sheet.specs.Sheet.{hidden_place, most_bound, length_of, count_of, question_of, sheet_answer}
+use Rattle.sheet.specs.Sheet.{hidden_place, most_bound, length_of, count_of, question_of, heading, sheet_answer}
 use Rattle.sheet.proofs.PassedLaws.{accepted_head}
 use Rattle.sheet.specs.WrittenLaws.{Writable, written_good, written_answer, written_count, written_question}
-use Rattle.sheet.specs.declared.SheetAnswer.TheVariants.{Accepted}
 use Rattle.compare_laws.specs.Setting.{Setting}
 use Rattle.compare_laws.specs.Room.{room_needed}
 use Rattle.compare_laws.specs.Comparison.{comparison}
@@ -56,8 +55,8 @@ module _ (x : Sides) {l r : List ℕ} {c : ℕ} (hidden : Hidden) (g : Given l r
   map_places = done.size
 
   -- "The sheet is accepted by its check, has bound c,"
-  pub sheet_accepted : sheet_answer (compared_sheet x l r c hidden) ≡ Accepted (count_of (compared_sheet x l r c hidden)) c
-  sheet_accepted = written_answer writable ∙ ap (λ q. Accepted q c) (sym (written_count writable))
+  pub sheet_accepted : sheet_answer (compared_sheet x l r c hidden) ≡ Ok (heading (count_of (compared_sheet x l r c hidden)) c)
+  sheet_accepted = written_answer writable ∙ ap (λ q. Ok (heading q c)) (sym (written_count writable))
 
   -- has room in the bytes that are asked for,
   pub sheet_fits : length (compared_sheet x l r c hidden) ≤ room_needed (sheet_version l r) (pairs_of l r)

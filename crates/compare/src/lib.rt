@@ -1,18 +1,16 @@
 // Compare (01): two books, pair by pair of their cells; of both sides, or one-way, of the left one alone (02, 2026-03).
 #![tactic(auto)]
 
-ghost use Rattle.std.specs.Prelude.{◌≡◌, ◌^◌, ◌≤◌, ◌<◌, length, false};
+ghost use Rattle.std.specs.Prelude.{◌≡◌, ◌≤◌, length, false};
 ghost use Rattle.theory.specs.Bisimulation.{sides_of};
-ghost use Rattle.outcome.specs.Outcome.{code};
-ghost use Rattle.book.specs.Book.{book_refusal};
 ghost use Rattle.book.specs.BookGraph.{hides_beyond};
 ghost use Rattle.sheet.specs.Sheet.{most_bound};
 ghost use Rattle.compare_laws.specs.Room.{room_needed};
 ghost use Rattle.compare_lists.specs.Comparing.{Lent};
-ghost use Rattle.compare.specs.Compare.{pairs_of, scratch_needed, lent, compare_outcome, IsCompare, IsCompareCode};
+ghost use Rattle.compare.specs.Compare.{pairs_of, scratch_needed, lent, IsCompare, IsCompareCode};
 
-use book::Hidden;
-use outcome::{OF_CALL, OF_LEFT_BOOK, OF_RIGHT_BOOK};
+use book::{Book, Hidden};
+use outcome::{Part, Refusal, Refused};
 
 // The largest bound.
 const MOST_BOUND: usize = sheet::MOST_BOUND as usize;
@@ -27,44 +25,36 @@ const BYTES_A_PAIR: usize = 20;
 
 const SCRATCH_A_PAIR: usize = 16;
 
-// What Compare answers: the length of the sheet and how many pairs are matched; a bound above 4 (20); the refusal of a book; a word that hides a
-// cell which its book has not (31); a map whose length is not the number of pairs (21); too little room (22) or scratch (23).
-#[derive(Clone, Copy)]
-pub enum CompareAnswer {
-    Compared { sheet: u32, matched: u32 },
-    BoundAbove,
-    LeftRefused(u8),
-    RightRefused(u8),
-    LeftHidden,
-    RightHidden,
-    MapLength,
-    FewRoom,
-    FewScratch,
+// What Compare answers where nothing is declined: the length of the sheet and how many pairs are matched.
+#[derive(Clone, Copy, PartialEq, Eq, Debug)]
+pub struct Compared {
+    pub sheet: u32,
+    pub matched: u32,
 }
 
 // Compare of all that is in order: the map, the sheet's entries and its header, and the scratch.
 fn served(
-    left: &[u8],
-    right: &[u8],
+    left: Book<'_>,
+    right: Book<'_>,
     bound: u8,
     hidden: Hidden,
     both: bool,
     map: &mut [u16],
     room: &mut [u8],
     scratch: &mut [u8],
-) -> CompareAnswer
-    requires { Lent left.now right.now bound hidden map.old room.old × (scratch_needed (pairs_of left.now right.now) ≤ length scratch.old) }
-    ensures { IsCompare (sides_of both) left.now right.now bound hidden (lent map.old room.old scratch.old) result (lent map.new room.new scratch.new) }
+) -> Result<Compared, Refused>
+    requires { Lent left.bytes.now right.bytes.now bound hidden map.old room.old × (scratch_needed (pairs_of left.bytes.now right.bytes.now) ≤ length scratch.old) }
+    ensures { IsCompare (sides_of both) left.entry.bytes.now right.entry.bytes.now bound hidden (lent map.old room.old scratch.old) result (lent map.new room.new scratch.new) }
 {
     let pen = compare_lists::fill(left, right, bound, hidden, both, map, room);
     let at = pen.at;
     sheet_writer::put_header(room, pen.version, at as u32, bound, pen.next);
     compare_map::clear_bytes(scratch);
     let count = compare_map::zeros(map);
-    CompareAnswer::Compared {
+    Ok(Compared {
         sheet: at as u32,
         matched: count as u32,
-    }
+    })
 }
 
 // The bytes of room that so many pairs need for a sheet of a version: the header and the first entry, and what parts them all.
@@ -76,30 +66,30 @@ fn room_needed(version: u8, pairs: usize) -> usize
     HEAD_AND_TRUE + bytes * pairs
 }
 
-// Compare of two accepted books: whether enough is lent.
+// Compare of two books: whether enough is lent.
 fn measured(
-    left: &[u8],
-    right: &[u8],
+    left: Book<'_>,
+    right: Book<'_>,
     bound: u8,
     hidden: Hidden,
     both: bool,
     map: &mut [u16],
     room: &mut [u8],
     scratch: &mut [u8],
-) -> CompareAnswer
-    requires { (book_refusal left.now ≡ 0) × (book_refusal right.now ≡ 0) × (hides_beyond hidden.left left.now ≡ false) × (hides_beyond hidden.right right.now ≡ false) × (bound ≤ most_bound) }
-    ensures { IsCompare (sides_of both) left.now right.now bound hidden (lent map.old room.old scratch.old) result (lent map.new room.new scratch.new) }
+) -> Result<Compared, Refused>
+    requires { (hides_beyond hidden.left left.bytes.now ≡ false) × (hides_beyond hidden.right right.bytes.now ≡ false) × (bound ≤ most_bound) }
+    ensures { IsCompare (sides_of both) left.entry.bytes.now right.entry.bytes.now bound hidden (lent map.old room.old scratch.old) result (lent map.new room.new scratch.new) }
 {
-    let pairs = book::cells_of(left) * book::cells_of(right);
+    let pairs = left.cells() * right.cells();
     if map.len() != pairs {
-        return CompareAnswer::MapLength;
+        return Err(Refusal::MapLength.of(Part::Call));
     }
-    let version = compare_lists::sheet_version(left, right);
+    let version = compare_lists::sheet_version(left.bytes, right.bytes);
     if room.len() < room_needed(version, pairs) {
-        return CompareAnswer::FewRoom;
+        return Err(Refusal::FewRoom.of(Part::Call));
     }
     if scratch.len() < SCRATCH_A_PAIR * pairs {
-        return CompareAnswer::FewScratch;
+        return Err(Refusal::FewScratch.of(Part::Call));
     }
     served(left, right, bound, hidden, both, map, room, scratch)
 }
@@ -117,45 +107,21 @@ pub fn compare(
     map: &mut [u16],
     room: &mut [u8],
     scratch: &mut [u8],
-) -> CompareAnswer
+) -> Result<Compared, Refused>
     ensures { IsCompare (sides_of both) left.now right.now bound hidden (lent map.old room.old scratch.old) result (lent map.new room.new scratch.new) }
 {
     if MOST_BOUND < bound {
-        return CompareAnswer::BoundAbove;
+        return Err(Refusal::BoundAbove.of(Part::Call));
     }
-    let refusal = book::refusal_of(left);
-    if refusal != 0 {
-        return CompareAnswer::LeftRefused(refusal);
+    let left = Book::check(left).map_err(|refusal| refusal.of(Part::LeftBook))?;
+    let right = Book::check(right).map_err(|refusal| refusal.of(Part::RightBook))?;
+    if left.hides_beyond(hidden.left) {
+        return Err(Refusal::HiddenBeyond.of(Part::LeftBook));
     }
-    let refusal = book::refusal_of(right);
-    if refusal != 0 {
-        return CompareAnswer::RightRefused(refusal);
-    }
-    if book::hides_beyond(left, hidden.left) {
-        return CompareAnswer::LeftHidden;
-    }
-    if book::hides_beyond(right, hidden.right) {
-        return CompareAnswer::RightHidden;
+    if right.hides_beyond(hidden.right) {
+        return Err(Refusal::HiddenBeyond.of(Part::RightBook));
     }
     measured(left, right, bound as u8, hidden, both, map, room, scratch)
-}
-
-// The answer as one number.
-fn compare_number(answer: CompareAnswer) -> u64
-    requires { ((compare_outcome answer).first < 2 ^ 24) × ((compare_outcome answer).second < 2 ^ 24) }
-    ensures { result ≡ code (compare_outcome answer) }
-{
-    match answer {
-        CompareAnswer::Compared { sheet, matched } => outcome::code(0, OF_CALL, sheet, matched),
-        CompareAnswer::BoundAbove => outcome::code(20, OF_CALL, 0, 0),
-        CompareAnswer::LeftRefused(refusal) => outcome::code(refusal, OF_LEFT_BOOK, 0, 0),
-        CompareAnswer::RightRefused(refusal) => outcome::code(refusal, OF_RIGHT_BOOK, 0, 0),
-        CompareAnswer::LeftHidden => outcome::code(31, OF_LEFT_BOOK, 0, 0),
-        CompareAnswer::RightHidden => outcome::code(31, OF_RIGHT_BOOK, 0, 0),
-        CompareAnswer::MapLength => outcome::code(21, OF_CALL, 0, 0),
-        CompareAnswer::FewRoom => outcome::code(22, OF_CALL, 0, 0),
-        CompareAnswer::FewScratch => outcome::code(23, OF_CALL, 0, 0),
-    }
 }
 
 // Compare, its answer as one number: the sheet's length and the count of matched pairs; the refusal of a book, 31 among them; or 20 to 23, of the call.
@@ -171,6 +137,8 @@ pub fn compare_code(
 ) -> u64
     ensures { IsCompareCode (sides_of both) left.now right.now bound hidden (lent map.old room.old scratch.old) result (lent map.new room.new scratch.new) }
 {
-    let answer = compare(left, right, bound, hidden, both, map, room, scratch);
-    compare_number(answer)
+    match compare(left, right, bound, hidden, both, map, room, scratch) {
+        Ok(done) => outcome::accepted(done.sheet, done.matched),
+        Err(refused) => refused.code(),
+    }
 }

@@ -4,20 +4,22 @@ use mathlib.Core.Bool.{Bool, true, false}
 use mathlib.Core.List.{List, [], ◌∷◌, ◌++◌}
 use mathlib.Core.Logic.{⊎_elim}
 use mathlib.Core.Path.{◌≡◌, refl, sym, ap, ap₂, ◌∙◌}
-use Prim.Native.Nat.{ℕ, zero, suc, ◌+◌, ◌*◌, ◌^◌, ◌≤◌, ◌<◌}
+use Prim.Native.Nat.{ℕ, zero, suc, ◌+◌, ◌*◌, ◌≤◌, ◌<◌}
 use native.Mathlib.Nat.{eq-or-lt_of_le, mul-le-mul_left}
 use native.Mathlib.Numerals.{add-one}
 use native.Mathlib.Omega.{arith}
 use lib.ListN.{length, get_or, set, take, drop, length-set, length-append}
-use lib.Seq.{drop-cons, length-take-le, get_or-set_same, get_or-set_other}
-use mir.Syntax.{w64}
+use lib.Seq.{drop-cons, length-take-le, get_or-set_same, get_or-set_other, get_or-take}
+use mir.Syntax.{w8}
 use mir.Val.{Fits}
 use Rattle.theory.specs.Bisimulation.{one_sided, two_sided}
-use Rattle.fields.specs.Label.{label_width}
-use Rattle.sheet.specs.Entry.{Entry, negation, entry_with, way}
+use Rattle.sheet.specs.Entry.{Entry, negation, entry_with, way, kind_number, most_steps}
 use Rattle.sheet.specs.Sheet.{step_width}
 use Rattle.sheet.specs.WrittenLaws.{size_of}
-use Rattle.sheet_writer.specs.Writing.{step, steps_from, steps_given, StepsFit, WaysFit, PutEntry, PutPlain}
+use Rattle.sheet.specs.declared.kinds.Kind.{Kind}
+use Rattle.sheet.specs.declared.kinds.Kind.TheVariants as kind
+use Rattle.sheet_writer.specs.declared.Step.{Step as Given}
+use Rattle.sheet_writer.specs.Writing.{step, steps_given, given, StepsFit, WaysFit, PutEntry, PutPlain}
 use Rattle.search_links.specs.Hops.{view_of}
 use Rattle.search_steps.specs.Paths.{path_of}
 use Rattle.search.specs.Reasons.{path_in, Numbered}
@@ -30,113 +32,124 @@ use Rattle.compare_entries.specs.Growing.{Roomy, Extends, side_of, Conjoins, Nam
 use Rattle.compare_entries.specs.GrowingLaws.{onward-more, extends_one, extends_more, side_at, left_at, left_set, right_kept}
 use Rattle.compare_entries.specs.declared.Pen.{Pen}
 use Rattle.compare_entries.specs.Parting.{listed, cause_in, Passable, Spells, Puttable, Denies, PartFits, Lists, lists, Shows, Parted}
-use Rattle.compare_entries.specs.declared.Way.{Way}
 
 -- ---- the steps of a way, one turn at a time
 -- the first i are made
-pub record Filled (labels to numbers links names tests : List ℕ) (i : ℕ) : Type 0 where
-  pub named : length names ≡ 4
-  pub tested : length tests ≡ 4
-  pub label : (j : ℕ) → j < i → get_or names j 0 ≡ get_or labels (get_or links j 0) 0
-  pub test : (j : ℕ) → j < i → get_or tests j 0 ≡ get_or numbers (get_or to (get_or links j 0) 0) 0
-
--- a list that follows a rule below i, set by the rule at i
-set_rule : (f : ℕ → ℕ) (xs : List ℕ) (i v : ℕ) → i < length xs → v ≡ f i → ((j : ℕ) → j < i → get_or xs j 0 ≡ f j) → (j : ℕ) → j < i + 1 → get_or (set xs i v) j 0 ≡ f j
-set_rule f xs i v h d r j l =
-    ⊎_elim (λ e. rw e (get_or-set_same xs i v 0 h ∙ d)) (λ o. get_or-set_other xs i j v 0 (λ e. omega arith) ∙ r j o) (eq-or-lt_of_le (omega arith))
+pub record Filled (labels to numbers links : List ℕ) (gs : List Given) (i : ℕ) : Type 0 where
+  pub long : length gs ≡ 4
+  pub label : (j : ℕ) → j < i → (given gs j).label ≡ get_or labels (get_or links j 0) 0
+  pub test : (j : ℕ) → j < i → (given gs j).test.0 ≡ get_or numbers (get_or to (get_or links j 0) 0) 0
 
 module _ (labels to numbers : List ℕ) (base : ℕ) (path : Route) where
-  pub filled_none : (names tests : List ℕ) → length names ≡ 4 → length tests ≡ 4 → Filled labels to (side_of base numbers) path.links names tests 0
-  filled_none names tests h k = record { named = h; tested = k; label = λ j l. absurd (omega arith); test = λ j l. absurd (omega arith) }
+  pub filled_none : (gs : List Given) → length gs ≡ 4 → Filled labels to (side_of base numbers) path.links gs 0
+  filled_none gs h = record { long = h; label = λ j l. absurd (omega arith); test = λ j l. absurd (omega arith) }
 
-  module _ (names tests : List ℕ) (i n : ℕ) (inv : Filled labels to (side_of base numbers) path.links names tests i) (pass : Numbered to 4 path) (d : n ≡ path.len) where
-    pub filled_more : i < n → (a y : ℕ) → a ≡ get_or labels (get_or path.links i 0) 0 → y ≡ get_or to (get_or path.links i 0) 0
-        → Filled labels to (side_of base numbers) path.links (set names i a) (set tests i (get_or numbers (base + y) 0)) (i + 1)
-    filled_more h a y da dy =
-        let s = pass.short in
-        record {
-          named = length-set names i _ ∙ inv.named;
-          tested = length-set tests i _ ∙ inv.tested;
-          label = set_rule (λ j. get_or labels (get_or path.links j 0) 0) names i _ (omega (arith, inv.named)) da inv.label;
-          test = set_rule (λ j. get_or (side_of base numbers) (get_or to (get_or path.links j 0) 0) 0) tests i _ (omega (arith, inv.tested))
-              (rw dy (sym (side_at base numbers _ (pass.low i (omega arith))))) inv.test;
-        }
+  module _ (gs : List Given) (i : ℕ) (inv : Filled labels to (side_of base numbers) path.links gs i) (pass : Numbered to 4 path) where
+    pub filled_more : i < path.len → (a y : ℕ) → a ≡ get_or labels (get_or path.links i 0) 0 → y ≡ get_or to (get_or path.links i 0) 0 → (g : Given) → g.label ≡ a
+        → g.test.0 ≡ get_or numbers (base + y) 0 → Filled labels to (side_of base numbers) path.links (set gs i g) (i + 1)
+    filled_more h a y da dy g dg dt = record {
+      long = length-set gs i g ∙ inv.long;
+      label = λ j l. ⊎_elim (λ e. rw e (ap (λ (s : Given). s.label) here ∙ dg ∙ da)) (λ o. ap (λ (s : Given). s.label) (there j o) ∙ inv.label j o) (eq-or-lt_of_le (most j l));
+      test = λ j l. ⊎_elim (λ e. rw e (ap (λ (s : Given). s.test.0) here ∙ dt ∙ rw dy (sym (side_at base numbers _ (pass.low i h)))))
+          (λ o. ap (λ (s : Given). s.test.0) (there j o) ∙ inv.test j o)
+          (eq-or-lt_of_le (most j l));
+    }
+      where
+        here : given (set gs i g) i ≡ g
+        here = get_or-set_same gs i g _ (omega (arith, inv.long, pass.short))
 
-    pub filled_all : i ≤ n → n ≤ i → Spells labels to (side_of base numbers) path (record { labels = names; tests = tests })
-    unfolding steps_from steps_along path_of
-    filled_all h k = record { steps = go path.len 0 (omega arith); label = λ j o. inv.label j (omega arith); labelled = inv.named; tested = inv.tested }
+        there : (j : ℕ) → j < i → given (set gs i g) j ≡ given gs j
+        there j o = get_or-set_other gs i j g _ (λ e. omega arith)
+
+        most : (j : ℕ) → j < i + 1 → j ≤ i
+        most j l = omega arith
+
+    pub filled_all : path.len ≤ i → Spells labels to (side_of base numbers) path gs
+    unfolding steps_given steps_along path_of
+    filled_all k = record { steps = go path.len 0 (omega arith); label = λ j o. inv.label j (omega arith); long = inv.long }
       where
         long : path.len ≤ length path.links
         long = omega (arith, pass.short, pass.links)
 
-        go : (q j : ℕ) → j + q ≤ path.len → steps_from names tests j q ≡ steps_along (side_of base numbers) (path_of (view_of [] labels to) (take q (drop j path.links)))
+        go : (q j : ℕ) → j + q ≤ path.len → steps_given (take q (drop j gs)) ≡ steps_along (side_of base numbers) (path_of (view_of [] labels to) (take q (drop j path.links)))
         go zero j l = refl
         go (suc q) j l =
-            rw (drop-cons path.links j 0 (omega (arith, long)))
+            rw (drop-cons path.links j 0 (omega (arith, long)), drop-cons gs j (record { label = 0; test = record { 0 = 0 } }) (omega (arith, inv.long, pass.short)))
             (ap₂ ◌∷◌ (ap₂ step (inv.label j (omega arith)) (inv.test j (omega arith)))
-            (go q (j + 1) (omega arith) ∙ rw (add-one j)))
+            (go q (suc j) (omega arith)))
 
   -- what the reads of a turn ask
-  module _ (pass : Numbered to 4 path) (i n : ℕ) (d : n ≡ path.len) (h : i < n) where
+  module _ (pass : Numbered to 4 path) (i : ℕ) (h : i < path.len) where
     pub link-below : get_or path.links i 0 < 512
-    link-below = pass.below i (omega arith)
+    link-below = pass.below i h
 
     module _ (low : base ≤ 64) (y : ℕ) (dy : y ≡ get_or to (get_or path.links i 0) 0) where
       node_below : y < 64
-      node_below = rw dy (pass.low i (omega arith))
+      node_below = rw dy (pass.low i h)
 
       pub number_below : base + y < 128
       number_below = omega (arith, node_below)
 
-      pub number_narrow : base + y < 256
-      number_narrow = omega (arith, node_below)
-
-      pub number_fits : Fits w64 (base + y)
+      pub number_fits : Fits w8 (base + y)
       number_fits = record { fits = omega (arith, node_below) }
 
-      -- and the byte offset of the number in its list
-      pub number_scaled : Fits w64 ((base + y) * 2)
-      number_scaled = record { fits = omega (arith, node_below) }
-
 -- ---- the entry of a reason
-module _ (v : ℕ) (labels to numbers room : List ℕ) (at : ℕ) (why : Reason) (put : Puttable v labels to why) (fits : at + reason_bytes v ≤ length room) (p : Way)
-    (sp : Spells labels to numbers why.first p) where
+-- another kind than a way has another number
+not_way : (k : Kind) → (k ≡ kind.Way → ⊥) → kind_number k ≡ 4 → ⊥
+not_way kind.True n e = absurd (omega arith)
+not_way kind.Not n e = absurd (omega arith)
+not_way kind.And n e = absurd (omega arith)
+not_way kind.Or n e = absurd (omega arith)
+not_way kind.Way n e = n refl
+not_way kind.Same n e = absurd (omega arith)
+not_way kind.Differ n e = absurd (omega arith)
+
+-- the steps of a way that its path has
+module _ (v : ℕ) (labels to numbers : List ℕ) (path : Route) (pass : Passable v labels to path) (gs : List Given) (sp : Spells labels to numbers path gs) where
+  -- the path is no longer than the steps
+  pub steps_inside : path.len ≤ length gs
+  steps_inside = omega (arith, pass.numbered.short, sp.long)
+
+  steps_many : length (take path.len gs) ≡ path.len
+  steps_many = length-take-le path.len gs steps_inside
+
+  steps_short : length (take path.len gs) ≤ 4
+  steps_short = omega (arith, steps_many, pass.numbered.short)
+
+  -- there is room for them where there is for 4, and their labels have room in their bytes
+  steps_fit : (room : List ℕ) (at : ℕ) → at + step_width v * 4 ≤ length room → StepsFit v room at (take path.len gs)
+  steps_fit room at h = record {
+    narrow = λ i l. rw (get_or-take path.len gs i _ (omega (arith, steps_many)), sp.label i (omega (arith, steps_many))) (pass.narrow i (omega (arith, steps_many)));
+    inside = omega (arith, mul-le-mul_left (step_width v) steps_short);
+  }
+
+module _ (v : ℕ) (labels to numbers room : List ℕ) (at : ℕ) (why : Reason) (put : Puttable v labels to why) (fits : at + reason_bytes v ≤ length room) (gs : List Given)
+    (sp : Spells labels to numbers why.first gs) where
   pub first-numbered : Numbered to 4 why.first
   first-numbered = put.first.numbered
 
-  -- the labels have room in their bytes
-  narrow : (path : Route) → Passable v labels to path → (u : Way) → Spells labels to numbers path u → (i : ℕ) → i < path.len → get_or u.labels i 0 < 256 ^ label_width v
-  narrow path s u k i h = rw (k.label i h) (s.narrow i h)
+  pub way_short : length (take why.first.len gs) ≤ most_steps v
+  way_short = omega (arith, steps_short v labels to numbers why.first put.first gs sp)
 
-  pub way_short : why.first.len ≤ 60
-  way_short = omega (arith, put.first.numbered.short)
+  pub way_fits : StepsFit v room (at + 3) (take why.first.len gs)
+  way_fits = steps_fit v labels to numbers why.first put.first gs sp room (at + 3) (omega arith)
 
-  pub way_fits : StepsFit v room (at + 3) p.labels p.tests why.first.len
-  way_fits =
-      let s = put.first.numbered.short in
-      record {
-        labelled = omega (arith, sp.labelled);
-        tested = omega (arith, sp.tested);
-        narrow = narrow why.first put.first p sp;
-        inside = omega (arith, mul-le-mul_left (step_width v) s);
-      }
-
-  pub put_link : why.kind ≡ 4 → (room' : List ℕ) (end : ℕ) → PutEntry v room at (way (steps_given p.labels p.tests why.first.len)) room' end
+  pub put_link : why.kind ≡ kind.Way → (room' : List ℕ) (end : ℕ) → PutEntry v room at (way (steps_given (take why.first.len gs))) room' end
       → PutEntry v room at (reason_entry numbers (listed labels to why)) room' end
   unfolding reason_entry path_of
   put_link e room' end w =
-      rw (reason_link (view_of [] labels to) why e) (rw (sp.steps, put.one e, one why.first.links put.first.numbered.links) at w)
+      rw (reason_link (view_of [] labels to) why four) (rw (sp.steps, put.one four, one why.first.links put.first.numbered.links) at w)
     where
+      four : kind_number why.kind ≡ 4
+      four = ap kind_number e
+
       one : (links : List ℕ) → length links ≡ 4 → take 1 links ≡ get_or links 0 0 ∷ []
       one [] h = absurd (omega arith)
       one (k ∷ ks) h = refl
 
-  module _ (f : why.kind ≡ 4 → ⊥) where
-    pub pair_kind : 5 ≤ why.kind
-    pair_kind = omega (arith, put.known.0)
-
-    pub pair-most : why.kind ≤ 6
-    pair-most = put.known.1
+  module _ (f : why.kind ≡ kind.Way → ⊥) where
+    pub pair_kind : 5 ≤ kind_number why.kind
+    pair_kind = let g : kind_number why.kind ≡ 4 → ⊥ = not_way why.kind f in omega (arith, put.known.0)
 
     pair_passable : Passable v labels to why.second
     pair_passable = put.two pair_kind
@@ -144,37 +157,26 @@ module _ (v : ℕ) (labels to numbers room : List ℕ) (at : ℕ) (why : Reason)
     pub second_numbered : Numbered to 4 why.second
     second_numbered = pair_passable.numbered
 
-    module _ (q : Way) (sq : Spells labels to numbers why.second q) where
-      pub ways_fit : WaysFit v room (at + 4) p.labels p.tests why.first.len q.labels q.tests why.second.len
+    module _ (gs' : List Given) (sp' : Spells labels to numbers why.second gs') where
+      pub ways_fit : WaysFit v room (at + 4) (take why.first.len gs) (take why.second.len gs')
       ways_fit =
-          let s = put.first.numbered.short in
-          let s' = pair_passable.numbered.short in
+          let s = steps_short v labels to numbers why.first put.first gs sp in
           record {
             short = s;
-            short' = s';
-            first = record {
-              labelled = omega (arith, sp.labelled);
-              tested = omega (arith, sp.tested);
-              narrow = narrow why.first put.first p sp;
-              inside = omega (arith, mul-le-mul_left (step_width v) s);
-            };
-            second = record {
-              labelled = omega (arith, sq.labelled);
-              tested = omega (arith, sq.tested);
-              narrow = narrow why.second pair_passable q sq;
-              inside = omega (arith, mul-le-mul_left (step_width v) s, mul-le-mul_left (step_width v) s');
-            };
+            short' = steps_short v labels to numbers why.second pair_passable gs' sp';
+            first = steps_fit v labels to numbers why.first put.first gs sp room (at + 4) (omega arith);
+            second = steps_fit v labels to numbers why.second pair_passable gs' sp' room _ (omega (arith, mul-le-mul_left (step_width v) s));
           }
 
       pub put_pair : (room' : List ℕ) (end : ℕ)
-          → PutEntry v room at (entry_with why.kind 0 0 (steps_given p.labels p.tests why.first.len) (steps_given q.labels q.tests why.second.len)) room' end
+          → PutEntry v room at (entry_with (kind_number why.kind) 0 0 (steps_given (take why.first.len gs)) (steps_given (take why.second.len gs'))) room' end
           → PutEntry v room at (reason_entry numbers (listed labels to why)) room' end
       unfolding reason_entry entry_with
       put_pair room' end w =
-          let w' = rw (sp.steps, sq.steps) at w in
+          let w' = rw (sp.steps, sp'.steps) at w in
           ⊎_elim
           (λ e. rw (reason_differ (view_of [] labels to) why e) (rw e at w'))
-          (λ l. let e : why.kind ≡ 5 = omega (arith, pair_kind) in rw (reason_same (view_of [] labels to) why e) (rw e at w'))
+          (λ l. let e : kind_number why.kind ≡ 5 = omega (arith, pair_kind) in rw (reason_same (view_of [] labels to) why e) (rw e at w'))
           (eq-or-lt_of_le put.known.1)
 
 -- ---- the entry and its denial
@@ -207,7 +209,7 @@ module _ (v : ℕ) (labels to numbers : List ℕ) (why : Reason) (put : Puttable
       let q = length_path why.second (put.two l) in
       ⊎_elim
       (λ e. rw (reason_differ (view_of [] labels to) why e) (omega (arith, eight p q)))
-      (λ k. let e : why.kind ≡ 5 = omega arith in rw (reason_same (view_of [] labels to) why e) (omega (arith, eight p q)))
+      (λ k. let e : kind_number why.kind ≡ 5 = omega arith in rw (reason_same (view_of [] labels to) why e) (omega (arith, eight p q)))
       (eq-or-lt_of_le put.known.1))
       (eq-or-lt_of_le put.known.0)
 

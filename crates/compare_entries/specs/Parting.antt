@@ -1,10 +1,11 @@
 -- What parts a pair, as it is written: from link numbers to steps, from a reason to its entry, and from a state of the comparison to the next.
-use Rattle.std.specs.Prelude.{Bool, cond, List, [], ◌≡◌, ℕ, ◌+◌, ◌*◌, ◌^◌, ◌≤◌, ◌<◌, length, get_or}
+use Rattle.std.specs.Prelude.{Bool, cond, List, [], ◌≡◌, ℕ, ◌+◌, ◌*◌, ◌^◌, ◌≤◌, ◌<◌, length, get_or, take}
 use Rattle.theory.specs.Bisimulation.{Sides}
 use Rattle.theory.specs.Parting.{Reason as TheoryReason}
 use Rattle.fields.specs.Label.{label_width}
-use Rattle.sheet.specs.Entry.{Entry}
-use Rattle.sheet_writer.specs.Writing.{steps_given}
+use Rattle.sheet.specs.Entry.{Entry, kind_number}
+use Rattle.sheet_writer.specs.declared.Step.{Step as Given}
+use Rattle.sheet_writer.specs.Writing.{steps_given, given}
 use Rattle.search_links.specs.Hops.{view_of}
 use Rattle.search.specs.Reasons.{path_in, reason_of, Numbered}
 use Rattle.search_pairs.specs.declared.Route.{Route}
@@ -13,7 +14,6 @@ use Rattle.compare_laws.specs.Room.{pair_entries, denied_bytes, pair_bytes}
 use Rattle.compare_laws.specs.Comparison.{State, Cause, ahead, back, with_denial, part, steps_along}
 use Rattle.compare_entries.specs.Growing.{Penned, Roomy, Onward, Extends, side_of}
 use Rattle.compare_entries.specs.declared.Pen.{Pen}
-use Rattle.compare_entries.specs.declared.Way.{Way}
 
 -- The theory's reason, by the links' labels and the nodes that they lead to.
 abbrev pub listed : List ℕ → List ℕ → Reason → TheoryReason
@@ -28,19 +28,18 @@ pub record Passable (v : ℕ) (labels to : List ℕ) (path : Route) : Type 0 whe
   pub numbered : Numbered to 4 path
   pub narrow : (i : ℕ) → i < path.len → get_or labels (get_or path.links i 0) 0 < 256 ^ label_width v
 
--- The way's steps are those along the path.
-pub record Spells (labels to numbers : List ℕ) (path : Route) (w : Way) : Type 0 where
-  pub steps : steps_given w.labels w.tests path.len ≡ steps_along numbers (path_in (view_of [] labels to) path)
-  pub label : (i : ℕ) → i < path.len → get_or w.labels i 0 ≡ get_or labels (get_or path.links i 0) 0
-  pub labelled : length w.labels ≡ 4
-  pub tested : length w.tests ≡ 4
+-- The first of the steps are those along the path.
+pub record Spells (labels to numbers : List ℕ) (path : Route) (gs : List Given) : Type 0 where
+  pub steps : steps_given (take path.len gs) ≡ steps_along numbers (path_in (view_of [] labels to) path)
+  pub label : (i : ℕ) → i < path.len → (given gs i).label ≡ get_or labels (get_or path.links i 0) 0
+  pub long : length gs ≡ 4
 
 -- The reason is one link, or two paths and a comparison.
 pub record Puttable (v : ℕ) (labels to : List ℕ) (why : Reason) : Type 0 where
-  pub known : (4 ≤ why.kind) × (why.kind ≤ 6)
+  pub known : (4 ≤ kind_number why.kind) × (kind_number why.kind ≤ 6)
   pub first : Passable v labels to why.first
-  pub one : why.kind ≡ 4 → why.first.len ≡ 1
-  pub two : 5 ≤ why.kind → Passable v labels to why.second
+  pub one : kind_number why.kind ≡ 4 → why.first.len ≡ 1
+  pub two : 5 ≤ kind_number why.kind → Passable v labels to why.second
 
 -- The entry e and its denial were written.
 pub record Denies (room room' : List ℕ) (pen pen' : Pen) (e : Entry) : Type 0 where

@@ -14,7 +14,8 @@ ghost use Rattle.compare_entries.specs.Parting.{listed, lists, cause_in, Spells,
 use book::{LeftCell, RightCell};
 use search::Reason;
 use search_pairs::Route;
-use sheet::Question;
+use sheet::{Kind, Question};
+use sheet_writer::Step;
 
 // The left cells' numbers begin at 0 in a list of what describes the cells of both books, the right ones' behind them.
 const LEFT: u8 = 0;
@@ -41,14 +42,12 @@ fn describe(room: &mut [u8], pen: Pen, numbers: &mut [u16; 128], x: u8, d: Quest
         numbers[i] = d.0;
         return pen;
     }
-    let at = pen.at;
-    let next = pen.next;
-    numbers[i] = next;
-    let end = sheet_writer::put_and(room, at, Question(old), d);
+    numbers[i] = pen.next;
+    let end = sheet_writer::put_and(room, pen.at, Question(old), d);
     Pen {
         at: end,
-        next: next + 1,
-        version: pen.version,
+        next: pen.next + 1,
+        ..pen
     }
 }
 
@@ -73,40 +72,31 @@ fn name_pair(
     describe(room, p, new, RIGHT + b.0, j)
 }
 
-// The steps of a way: their labels, and the questions at the cells that they lead to.
-#[derive(Clone, Copy)]
-pub struct Way {
-    pub labels: [u16; 4],
-    pub tests: [u16; 4],
-}
-
-// The steps along a path of links: at each cell the question is the one that the numbers from `base` on give for it.
+// The steps along a path of links, as many as it has: at each cell the question is the one that the numbers from `base` on give for it.
+// Stays: two lists and no `Side`, here and below, since `part` asks nothing of the order of links.
 fn way_along(
     labels: &[u16; 512],
     to: &[u8; 512],
     numbers: &[u16; 128],
     base: u8,
     path: Route,
-) -> Way
+) -> [Step; 4]
     requires { Numbered to.now 4 path × (base ≤ 64) }
     ensures { Spells labels.now to.now (side_of base numbers.now) path result }
 {
-    let links = path.links;
-    let n = path.len as usize;
-    let mut names = [0u16; 4];
-    let mut tests = [0u16; 4];
-    let mut i = 0;
-    while i < n {
-        let k = links[i];
+    let mut steps = [Step {
+        label: 0,
+        test: Question(0),
+    }; 4];
+    for i in 0..path.len as usize {
+        let k = path.links[i];
         let x = base + search_links::target(to, k);
-        names[i] = search_links::label(labels, k);
-        tests[i] = numbers[x as usize];
-        i += 1;
+        steps[i] = Step {
+            label: search_links::label(labels, k),
+            test: Question(numbers[x as usize]),
+        };
     }
-    Way {
-        labels: names,
-        tests,
-    }
+    steps
 }
 
 // Writes the entry that puts the reason at `at`, and gives the byte after it.
@@ -123,20 +113,16 @@ fn put_reason(
     requires { Puttable version labels.now to.now why × (base ≤ 64) × (at + reason_bytes version ≤ length room.old) }
     ensures { PutEntry version room.old at (reason_entry (side_of base numbers.now) (listed labels.now to.now why)) room.new result }
 {
-    let first = why.first;
-    let p = way_along(labels, to, numbers, base, first);
-    let names = p.labels;
-    let tests = p.tests;
-    if why.kind == sheet::KIND_WAY {
-        return sheet_writer::put_way(room, at, version, &names, &tests, first.len);
+    let first = way_along(labels, to, numbers, base, why.first);
+    let steps = &first[..why.first.len as usize];
+    match why.kind {
+        Kind::Way => sheet_writer::put_way(room, at, version, steps),
+        kind => {
+            let second = way_along(labels, to, numbers, base, why.second);
+            let steps2 = &second[..why.second.len as usize];
+            sheet_writer::put_comparison(room, at, version, kind, steps, steps2)
+        }
     }
-    let second = why.second;
-    let q = way_along(labels, to, numbers, base, second);
-    let names2 = q.labels;
-    let tests2 = q.tests;
-    sheet_writer::put_comparison(
-        room, at, version, why.kind, &names, &tests, first.len, &names2, &tests2, second.len,
-    )
 }
 
 // Writes the entry that puts the reason, and its denial.
@@ -152,19 +138,17 @@ fn put_denied(
     requires { Puttable pen.version labels.now to.now why × (base ≤ 64) × Roomy room.old pen (denied_bytes pen.version) 2 }
     ensures { Denies room.old room.new pen result (reason_entry (side_of base numbers.now) (listed labels.now to.now why)) }
 {
-    let next = pen.next;
-    let version = pen.version;
-    let mid = put_reason(room, pen.at, version, labels, to, numbers, base, why);
-    let end = sheet_writer::put_not(room, mid, Question(next));
+    let mid = put_reason(room, pen.at, pen.version, labels, to, numbers, base, why);
+    let end = sheet_writer::put_not(room, mid, Question(pen.next));
     Pen {
         at: end,
-        next: next + 2,
-        version,
+        next: pen.next + 2,
+        ..pen
     }
 }
 
-// Parts the pair (a, b) at its place of the map, where both sides count. The reason is found from the left where `ahead`, else from the right: `labels` and `to`
-// are the links of that side's book. `old` describes the cells since the round's start. Of the entry that puts the reason and its denial, the
+// Parts the pair (a, b) at its place of the map, where both sides count. The reason is found from the left where `ahead`, else from the right: `labels` and `to` are the links of that
+// side's book. `old` describes the cells since the round's start. Of the entry that puts the reason and its denial, the
 // one that is true at a is named in the map and added to what describes a, and the other to what describes b.
 pub fn part(
     room: &mut [u8],
@@ -210,13 +194,12 @@ pub fn part_left(
     requires { PartFits room.old pen map.old place labels.now to.now new.old a.0 b.0 why }
     ensures { Parted one_sided (lists room.old pen map.old old.now new.old) (lists room.new result map.new old.now new.new) place a.0 b.0 (ahead (listed labels.now to.now why)) }
 {
-    let version = pen.version;
     let d = pen.next;
-    let end = put_reason(room, pen.at, version, labels, to, old, LEFT, why);
+    let end = put_reason(room, pen.at, pen.version, labels, to, old, LEFT, why);
     let p = Pen {
         at: end,
         next: d + 1,
-        version,
+        ..pen
     };
     map[place] = d;
     describe(room, p, new, a.0, Question(d))

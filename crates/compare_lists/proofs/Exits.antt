@@ -10,6 +10,7 @@ use mir.Syntax.{w8}
 use mir.Val.{Fits}
 use lib.ListN.{length, get_or, replicate}
 use lib.Seq.{length-sets}
+use Rattle.fields.specs.Fields.{Bytes}
 use Rattle.theory.specs.Search.{list}
 use Rattle.theory.specs.Bisimulation.{sides_of}
 use Rattle.theory.proofs.TestLaws.{never}
@@ -18,18 +19,21 @@ use Rattle.book.specs.Book.{version_of, cells_of, book_refusal}
 use Rattle.book.specs.BookGraph.{showing}
 use Rattle.book.specs.AcceptedLaws.{book_sizes}
 use Rattle.edges.specs.BookEdges.{Loaded, BothRows}
-use Rattle.search_links.specs.Hops.{Starts}
+use Rattle.search_links.specs.Hops.{view_of, Starts, Ordered}
+use Rattle.search_links.specs.declared.side.Side.{Side}
+use Rattle.search_links.specs.BookHopLaws.{seen_ordered}
 use Rattle.search_links.specs.Sets.{Paired}
 use Rattle.sheet.specs.Entry.{truth}
 use Rattle.sheet.specs.Encoding.{encode_entry}
 use Rattle.sheet.specs.WrittenLaws.{size_of}
 use Rattle.sheet_writer.specs.Writing.{PutPlain}
 use Rattle.sheet_writer.specs.WritingLaws.{holding_none, holding_next, kept-after}
+use Rattle.search.specs.BookReasons.{Read}
 use Rattle.search.specs.BookReasonLaws.{read_charted}
 use Rattle.compare_laws.specs.Places.{start_at, start_map}
 use Rattle.compare_laws.specs.Comparison.{begin, upto, states}
 use Rattle.compare_entries.specs.declared.Pen.{Pen}
-use Rattle.compare_pair.specs.Settling.{chart, Ground, Standing}
+use Rattle.compare_pair.specs.Settling.{chart_of, Ground, Standing}
 use Rattle.compare_rounds.specs.Turns.{at_rest, no_pair, Opens, Refines}
 use Rattle.compare_lists.specs.BookSetting.{sheet_version, setting_of}
 use Rattle.compare_lists.specs.Laws.{books_comparable}
@@ -37,13 +41,12 @@ use Rattle.compare_lists.specs.Comparing.{IsRead, Lent, Started, Fills}
 
 -- ---- a book, read
 
-pub read_whole : (h : ℕ) (s fs ls ts starts ends alike unlike : List ℕ) (count : ℕ) → book_refusal s ≡ 0 → Loaded h s count fs ls ts
-    → Starts count fs starts → BothRows h s alike unlike → Paired alike unlike ends → IsRead h s ls ts starts ends
-read_whole h s fs ls ts starts ends alike unlike count r d t b p =
-    record { count = count; from = fs; read = record { accepted = r; loaded = d; table = t; rows = rw (b.first, b.second) at p } }
+module _ (h : ℕ) (s fs ls ts starts : List ℕ) (count : ℕ) (r : book_refusal s ≡ 0) (d : Loaded h s count fs ls ts) (t : Starts count fs starts) where
+  pub read_ordered : Ordered (view_of starts ls ts)
+  read_ordered = seen_ordered h s count fs ls ts starts r d t
 
-pub read_few : (h : ℕ) (s fs ls ts : List ℕ) (count : ℕ) → Loaded h s count fs ls ts → count ≤ 512
-read_few h s fs ls ts count d = d.held.few
+  pub read_whole : (alike unlike ends : List ℕ) → BothRows h s alike unlike → Paired alike unlike ends → Read h s count fs ls ts starts ends
+  read_whole alike unlike ends b p = record { accepted = r; loaded = d; table = t; rows = rw (b.first, b.second) at p }
 
 -- ---- the first entry
 
@@ -64,6 +67,9 @@ module _ {map map' room room' : List ℕ} {at v m : ℕ} {hidden : Hidden} where
 
 -- ---- the version of the sheet
 
+pub bytes_are : (s : List ℕ) → ((i : ℕ) → Fits w8 (get_or s i 0)) → Bytes s
+bytes_are s f = record { each = λ i. (f i).fits }
+
 module _ (left right : List ℕ) (v : ℕ) (d : v ≡ version_of left) where
   pub left_wide : v ≡ 2 → 2 ≡ sheet_version left right
   unfolding sheet_version
@@ -80,28 +86,26 @@ module _ (left right : List ℕ) (v : ℕ) (d : v ≡ version_of left) where
 
 -- ---- the comparison
 
-module _ {left right : List ℕ} {c : ℕ} {hidden : Hidden} {map room : List ℕ} (given : Lent left right c hidden map room) where
-  pub left_long : 8 ≤ length left
-  left_long = (book_sizes left given.left_accepted).long
+pub long : (s : List ℕ) → book_refusal s ≡ 0 → 8 ≤ length s
+long s e = (book_sizes s e).long
 
-  pub right_long : 8 ≤ length right
-  right_long = (book_sizes right given.right_accepted).long
-
+module _ {left right : List ℕ} {c : ℕ} {hidden : Hidden} {map room : List ℕ} (left_good : book_refusal left ≡ 0) (right_good : book_refusal right ≡ 0)
+    (given : Lent left right c hidden map room) where
   -- what the map's start asks for
   pub map-asked : (m : ℕ) → m ≡ cells_of right → (10 ≤ length room) × (1 ≤ m) × (m ≤ 64) × (length map ≤ 64 * m)
   map-asked m d =
-      let l = book_sizes left given.left_accepted in
-      let r = book_sizes right given.right_accepted in
+      let l = book_sizes left left_good in
+      let r = book_sizes right right_good in
       (omega (arith, given.roomy), omega (arith, r.some), omega (arith, r.few), rw d (omega (arith, given.places, mul-le-mul_right (cells_of right) l.few)))
 
   module _ (both : Bool) where
     -- the lists are those of the books' setting
-    ground : {sa la ta ea sb lb tb eb : List ℕ} {n m : ℕ} → ((i : ℕ) → Fits w8 (get_or left i 0)) → ((i : ℕ) → Fits w8 (get_or right i 0))
-        → IsRead hidden.left left la ta sa ea → IsRead hidden.right right lb tb sb eb → n ≡ cells_of left → m ≡ cells_of right
-        → Ground (setting_of (sides_of both) left right c hidden) (chart sa la ta ea) (chart sb lb tb eb) (record { left = n; right = m; bound = c; both = both })
-    ground f g x y dn dm =
+    ground : {a b : Side} {n m : ℕ} → Bytes left × Bytes right
+        → IsRead hidden.left left a → IsRead hidden.right right b → n ≡ cells_of left → m ≡ cells_of right
+        → Ground (setting_of (sides_of both) left right c hidden) (chart_of a) (chart_of b) (record { left = n; right = m; bound = c; both = both })
+    ground f x y dn dm =
         record {
-          comparable = books_comparable (sides_of both) left right c hidden (record { each = λ i. (f i).fits }) (record { each = λ i. (g i).fits }) given.left_accepted given.right_accepted
+          comparable = books_comparable (sides_of both) left right c hidden f.0 f.1 left_good right_good
               given.bound;
           left = read_charted hidden.left left x.count x.from _ _ _ _ x.read;
           right = read_charted hidden.right right y.count y.from _ _ _ _ y.read;
@@ -129,19 +133,19 @@ module _ {left right : List ℕ} {c : ℕ} {hidden : Hidden} {map room : List �
             roomy = rw first.behind.size given.roomy;
           }
 
-      module _ {sa la ta ea sb lb tb eb : List ℕ} {n : ℕ} (f : (i : ℕ) → Fits w8 (get_or left i 0)) (g : (i : ℕ) → Fits w8 (get_or right i 0))
-          (x : IsRead hidden.left left la ta sa ea) (y : IsRead hidden.right right lb tb sb eb) (dn : n ≡ cells_of left) where
-        pub opened : Opens (chart sa la ta ea) (chart sb lb tb eb) (record { left = n; right = m; bound = c; both = both }) no_pair (at_rest room' pen map' (replicate 128 0))
+      module _ {a b : Side} {n : ℕ} (f : Bytes left × Bytes right)
+          (x : IsRead hidden.left left a) (y : IsRead hidden.right right b) (dn : n ≡ cells_of left) where
+        pub opened : Opens (chart_of a) (chart_of b) (record { left = n; right = m; bound = c; both = both }) no_pair (at_rest room' pen map' (replicate 128 0))
         opened =
-            record { setting = setting_of (sides_of both) left right c hidden; before = 0; ground = ground f g x y dn dm; standing = standing; known = λ a b o u e. never e }
+            record { setting = setting_of (sides_of both) left right c hidden; before = 0; ground = ground f x y dn dm; standing = standing; known = λ a b o u e. never e }
 
         pub filled : {map'' room'' new : List ℕ} {pen' : Pen}
-            → Refines (chart sa la ta ea) (chart sb lb tb eb) (record { left = n; right = m; bound = c; both = both }) (at_rest room' pen map' (replicate 128 0)) (at_rest room'' pen' map'' new)
+            → Refines (chart_of a) (chart_of b) (record { left = n; right = m; bound = c; both = both }) (at_rest room' pen map' (replicate 128 0)) (at_rest room'' pen' map'' new)
             → Fills both left right c hidden room room'' pen' map''
         filled t =
             record {
-              comparable = (ground f g x y dn dm).comparable;
-              finished = t.finished _ 0 (ground f g x y dn dm) standing;
+              comparable = (ground f x y dn dm).comparable;
+              finished = t.finished _ 0 (ground f x y dn dm) standing;
               behind = record {
                 size = t.onward.size ∙ first.behind.size;
                 kept = λ n h. t.onward.kept n h ∙ first.behind.kept n (omega (arith, t.onward.further));

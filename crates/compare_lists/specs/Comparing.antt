@@ -3,10 +3,11 @@ use Rattle.std.specs.Prelude.{Bool, false, List, [], ◌∷◌, ◌≡◌, ℕ, 
 use Rattle.theory.specs.Search.{list}
 use Rattle.theory.specs.Bisimulation.{sides_of}
 use Rattle.book.specs.declared.Hidden.{Hidden}
-use Rattle.book.specs.Book.{cells_of, book_refusal}
+use Rattle.book.specs.Book.{cells_of}
 use Rattle.book.specs.BookGraph.{showing, hides_beyond}
 use Rattle.sheet.specs.Entry.{truth}
 use Rattle.sheet.specs.Sheet.{most_bound}
+use Rattle.search_links.specs.declared.side.Side.{Side}
 use Rattle.search.specs.BookReasons.{Read}
 use Rattle.compare_laws.specs.Room.{room_needed}
 use Rattle.compare_laws.specs.Places.{start_at}
@@ -16,16 +17,14 @@ use Rattle.compare_entries.specs.declared.Pen.{Pen}
 use Rattle.compare_rounds.specs.Turns.{Finished}
 use Rattle.compare_lists.specs.BookSetting.{sheet_version, setting_of}
 
--- The lists hold an accepted book, seen through a word, as the search reads it.
-pub record IsRead (hidden : ℕ) (s labels to starts ends : List ℕ) : Type 0 where
+-- The side holds an accepted book, seen through a word, as the search reads it.
+pub record IsRead (hidden : ℕ) (s : List ℕ) (a : Side) : Type 0 where
   pub count : ℕ
   pub from : List ℕ
-  pub read : Read hidden s count from labels to starts ends
+  pub read : Read hidden s count from a.labels a.to a.starts a.ends
 
--- Two accepted books, words that hide cells of theirs, and a bound, a place of the map for each pair, and room for what parts them all.
+-- Words that hide cells of two accepted books, a bound, a place of the map for each pair, and room for what parts them all.
 pub record Lent (left right : List ℕ) (c : ℕ) (hidden : Hidden) (map room : List ℕ) : Type 0 where
-  pub left_accepted : book_refusal left ≡ 0
-  pub right_accepted : book_refusal right ≡ 0
   pub left_word : hides_beyond hidden.left left ≡ false
   pub right_word : hides_beyond hidden.right right ≡ false
   pub bound : c ≤ most_bound

@@ -1,16 +1,19 @@
 -- What each turn and each way out of the functions shows of the definitions of `specs/`. The numbers that the code computed are variables
 -- here, with what is known of them, so that `search` finds them in a need's record.
-use mathlib.Core.Bool.{Bool, false, So}
-use mathlib.Core.List.{List, ◌∷◌}
+use mathlib.Core.Bool.{Bool, false, So, cond}
+use mathlib.Core.List.{List, [], ◌∷◌}
 use mathlib.Core.Logic.{⊎_elim}
 use mathlib.Core.Path.{◌≡◌, refl, sym, ap, ◌∙◌}
-use Prim.Native.Nat.{ℕ, zero, suc, ◌+◌, ◌-◌, ◌*◌, ◌/◌, ◌%◌, ◌^◌, ◌≤◌, ◌<◌}
-use native.Mathlib.Nat.{eq-or-lt_of_le, mod-lt}
-use native.Mathlib.Numerals.{add-one}
+use Prim.Native.Nat.{ℕ, zero, suc, ◌+◌, ◌-◌, ◌/◌, ◌%◌, ◌^◌, ◌≤◌, ◌<◌}
+use native.Mathlib.Nat.{eq-or-lt_of_le}
 use native.Mathlib.Omega.{arith}
+use borrow.Author.Tests.{ne_eqb}
 use lib.Bits.{bit_or}
-use lib.ListN.{length, get_or, set, drop, replicate, length-set, length-replicate, get_or-replicate}
-use lib.Seq.{drop-cons, drop-length, ext_get_or, get_or-set_same, get_or-set_other}
+use lib.Dec.{eqb}
+use lib.ListN.{length, get_or, set, replicate, length-set}
+use lib.Seq.{ext_get_or, get_or-set_same, get_or-set_other}
+use Rattle.std.specs.List.{count_by}
+use Rattle.std.proofs.lemmas.List.Recursion.{is_count_by}
 use Rattle.theory.specs.Search.{list}
 use Rattle.theory.proofs.TestLaws.{list_at, length-list}
 use Rattle.words.specs.Words.{bit, word_of}
@@ -22,7 +25,7 @@ use Rattle.edges.specs.Laws.{rows_none, rows_more}
 use Rattle.answers.specs.Row.{row_word, row_answer, word_in}
 use Rattle.answers.specs.RowLaws.{row-given}
 use Rattle.compare_laws.specs.Places.{start_at, zeros}
-use Rattle.compare_laws.proofs.PlaceLaws.{place_below, row_below}
+use Rattle.compare_laws.proofs.PlaceLaws.{place_below}
 use Rattle.compare_map.specs.Relation.{Mapped, rows_of, column_of, columns_of}
 
 -- ---- the rows
@@ -79,29 +82,17 @@ module _ (rows : List ℕ) where
       columns_all m h l = let e : j ≡ m = omega arith in rw e at inv
 
 -- ---- the zeros
--- `count` zeros were met before place k
-module _ (map : List ℕ) (k count next : ℕ) (h : k < length map) (inv : count + zeros (drop k map) ≡ zeros map) where
-  rest_more : drop k map ≡ get_or map k 0 ∷ drop (k + 1) map
-  rest_more = rw (add-one, drop-cons map k 0)
 
-  pub zeros-more : get_or map k 0 ≡ 0 → next ≡ count + 1 → next + zeros (drop (k + 1) map) ≡ zeros map
-  unfolding zeros
-  zeros-more z d = let e = rw (rest_more, z) at inv in omega arith
-
-  pub zeros_skip : (get_or map k 0 ≡ 0 → ⊥) → next ≡ count → next + zeros (drop (k + 1) map) ≡ zeros map
-  unfolding zeros
-  zeros_skip f d = let e = rw rest_more at inv in go (get_or map k 0) f e
-    where
-      go : (x : ℕ) → (x ≡ 0 → ⊥) → count + zeros (x ∷ drop (k + 1) map) ≡ zeros map → next + zeros (drop (k + 1) map) ≡ zeros map
-      go zero f e = absurd (f refl)
-      go (suc x) f e = omega arith
-
-pub zeros_all : (map : List ℕ) (k count : ℕ) → count + zeros (drop k map) ≡ zeros map → k ≤ length map → length map ≤ k → count ≡ zeros map
+pub zeros_counted : (map : List ℕ) → zeros map ≡ count_by (λ v. eqb v 0) map
 unfolding zeros
-zeros_all map k count inv h l =
-    let e : k ≡ length map = omega arith in
-    let t = rw (e, drop-length map) at inv in
-    omega arith
+zeros_counted = is_count_by zeros (λ v. eqb v 0) zeros_none zeros_more
+  where
+    zeros_none : zeros [] ≡ 0
+    zeros_none = refl
+
+    zeros_more : (x : ℕ) (xs : List ℕ) → zeros (x ∷ xs) ≡ cond (eqb x 0) (1 + zeros xs) (zeros xs)
+    zeros_more zero xs = omega arith
+    zeros_more (suc x) xs = rw (ne_eqb (suc x) 0 (λ e. omega arith))
 
 -- ---- a list made from the front
 
@@ -129,25 +120,7 @@ module _ (f : ℕ → ℕ) where
       ext_get_or 0 xs (list (length xs₀) f) (e ∙ sym (length-list (length xs₀) f))
       (λ i l. b.each i (omega arith) ∙ sym (list_at (length xs₀) f i 0 (omega arith)))
 
--- zeros
-pub zero_more : (k : ℕ) (xs : List ℕ) → Made (λ x. 0) k xs → k < length xs → Made (λ x. 0) (k + 1) (set xs k 0)
-zero_more k xs b h = made_more (λ x. 0) k xs b h 0 refl
-
-pub zero_all : (k : ℕ) (xs xs₀ : List ℕ) → Made (λ x. 0) k xs → length xs ≡ length xs₀ → length xs ≤ k → xs ≡ replicate (length xs₀) 0
-zero_all k xs xs₀ b e h = made_all (λ x. 0) k xs xs₀ b e h ∙ zeros-listed (length xs₀)
-  where
-    zeros-listed : (n : ℕ) → list {A = ℕ} n (λ x. 0) ≡ replicate n 0
-    zeros-listed n = ext_get_or 0 _ _ (length-list n _ ∙ sym (length-replicate n 0))
-        (λ i l. let o : i < n = rw (← length-list {A = ℕ} n (λ x. 0)) l in list_at n _ i 0 o ∙ sym (get_or-replicate n i 0 0 o))
-
 -- ---- a place before the first round
-
-module _ (k m : ℕ) (p : 1 ≤ m) (q : m ≤ 64) (h : k < 64 * m) where
-  pub row_low : k / m < 64
-  row_low = row_below 64 m k h
-
-  pub column_low : k % m < 64
-  column_low = omega (arith, mod-lt k p)
 
 module _ (k m v w : ℕ) (a : Bool) (d : a ≡ bit v (k / m)) where
   pub start_left : So a → hidden_place ≡ start_at m (showing v) (showing w) k

@@ -17,28 +17,19 @@ pub fn rows_of(map: &[u16], n: usize, m: usize) -> [u64; 64]
     ensures { result ≡ rows_of map.now n m }
 {
     let mut rows = [0u64; 64];
-    let mut i = 0;
-    while i < n {
+    for i in 0..n {
         rows[i] = answers::row_word(map, m, i);
-        i += 1;
     }
     rows
 }
 
 // The left cells, of n, that right cell j is related to.
+#[tactic(auto, unfolding(crate::specs::Relation::column_of))]
 fn column_of(rows: &[u64; 64], n: usize, j: u8) -> u64
     requires { (n ≤ 64) × (j < 64) }
     ensures { result ≡ column_of rows.now n j }
 {
-    let mut out: u64 = 0;
-    let mut i = 0;
-    while i < n {
-        if words::has(rows[i], j) {
-            out = words::with(out, i as u8);
-        }
-        i += 1;
-    }
-    out
+    words::those(n, |i| words::has(rows[i], j))
 }
 
 // The relation from the right: row j has the left cells, of n, whose row has j, for each of m right cells. The rows from m on are empty.
@@ -47,10 +38,8 @@ pub fn columns_of(rows: &[u64; 64], n: usize, m: usize) -> [u64; 64]
     ensures { result ≡ columns_of rows.now n m }
 {
     let mut columns = [0u64; 64];
-    let mut j = 0;
-    while j < m {
+    for j in 0..m {
         columns[j] = column_of(rows, n, j as u8);
-        j += 1;
     }
     columns
 }
@@ -59,15 +48,7 @@ pub fn columns_of(rows: &[u64; 64], n: usize, m: usize) -> [u64; 64]
 pub fn zeros(map: &[u16]) -> usize
     ensures { result ≡ zeros map.now }
 {
-    let mut count = 0;
-    let mut k = 0;
-    while k < map.len() {
-        if map[k] == 0 {
-            count += 1;
-        }
-        k += 1;
-    }
-    count
+    map.iter().filter(|place| **place == 0).count()
 }
 
 // What place k of a map, m places a row, holds before the first round: 0, or 65,535 where a cell of its pair is hidden.
@@ -91,10 +72,8 @@ pub fn start_map(map: &mut [u16], m: usize, hidden: Hidden)
     requires { (1 ≤ m) × (m ≤ 64) × (length map.old ≤ 64 * m) }
     ensures { map.new ≡ list (length map.old) (start_at m (showing hidden.left) (showing hidden.right)) }
 {
-    let mut k = 0;
-    while k < map.len() {
-        map[k] = start_at(k, m, hidden);
-        k += 1;
+    for (k, place) in map.iter_mut().enumerate() {
+        *place = start_at(k, m, hidden);
     }
 }
 
@@ -102,9 +81,5 @@ pub fn start_map(map: &mut [u16], m: usize, hidden: Hidden)
 pub fn clear_bytes(bytes: &mut [u8])
     ensures { bytes.new ≡ replicate (length bytes.old) 0 }
 {
-    let mut k = 0;
-    while k < bytes.len() {
-        bytes[k] = 0;
-        k += 1;
-    }
+    bytes.fill(0);
 }

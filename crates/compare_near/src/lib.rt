@@ -7,35 +7,21 @@ ghost use Rattle.search_links.specs.Hops.{Opened};
 ghost use Rattle.compare_near.specs.Near.{changed, behind, near_to, reach_of_lem};
 
 // The cells, of n, whose row is not what it was.
+#[tactic(auto, unfolding(crate::specs::Near::changed))]
 fn changed(before: &[u64; 64], after: &[u64; 64], n: usize) -> u64
     requires { n ≤ 64 }
     ensures { result ≡ changed before.now after.now n }
 {
-    let mut out: u64 = 0;
-    let mut i = 0;
-    while i < n {
-        if before[i] != after[i] {
-            out = words::with(out, i as u8);
-        }
-        i += 1;
-    }
-    out
+    words::those(n, |i| before[i] != after[i])
 }
 
 // The cells, of n, that a link leads from to a cell of w.
+#[tactic(auto, unfolding(crate::specs::Near::behind))]
 fn behind(starts: &[u16; 65], to: &[u8; 512], n: usize, w: u64) -> u64
     requires { Opened starts.now to.now × (n ≤ 64) }
     ensures { result ≡ behind starts.now to.now n w }
 {
-    let mut out: u64 = 0;
-    let mut x = 0;
-    while x < n {
-        if search_links::leads(starts, to, x as u8, w) {
-            out = words::with(out, x as u8);
-        }
-        x += 1;
-    }
-    out
+    words::those(n, |x| search_links::leads(starts, to, x as u8, w))
 }
 
 // The cells of w, and those, of n, that at most d links lead from to a cell of w.
@@ -44,11 +30,9 @@ fn near_to(starts: &[u16; 65], to: &[u8; 512], n: usize, w: u64, d: u8) -> u64
     ensures { result ≡ near_to starts.now to.now n w d }
 {
     let mut out = w;
-    let mut k: u8 = 0;
-    while k < d {
+    for _k in 0..d {
         let more = behind(starts, to, n, out);
         out = words::union(out, more);
-        k += 1;
     }
     out
 }

@@ -6,11 +6,11 @@ use mathlib.Core.Path.{◌≡◌, ap, ◌∙◌}
 use Prim.Native.Nat.{ℕ, suc, ◌+◌, ◌*◌, ◌≤◌, ◌<◌}
 use native.Mathlib.Nat.{mul-le-mul}
 use native.Mathlib.Omega.{arith}
+use Rattle.std.specs.Prelude.{Option, Some, None}
 use Rattle.theory.specs.Bisimulation.{Relation, flip, one_sided, two_sided, sides_of}
 use Rattle.search_links.specs.Sets.{Valued}
-use Rattle.search.specs.Lengths.{Ready}
 use Rattle.search.specs.Reasons.{Posed, Answered}
-use Rattle.search.specs.Laws.{charted_ready, charted_posed, answer_some, answer_chosen_none}
+use Rattle.search.specs.Laws.{charted_posed, answer_some, answer_chosen_none}
 use Rattle.search.specs.declared.Reason.{Reason}
 use Rattle.compare_laws.specs.Room.{pair_entries, pair_bytes}
 use Rattle.compare_laws.specs.Places.{placed}
@@ -95,103 +95,86 @@ module _ {l r : Chart} {rows columns : List ℕ} {x : Lists} {here : Case} (open
         }
 
     -- what the search found, in the setting
-    module _ (why : Reason) (w : Answered l.view r.view rows l.ends r.ends here.left.0 here.right.0 here.sizes.bound why) where
-      verdict_ahead : (why.kind ≡ 0 → ⊥) → verdict s z here.left.0 here.right.0 ≡ parted_by (ahead (listed l.view.labels l.view.to why))
-      verdict_ahead n =
+    module _ (found : Option Reason) (w : Answered l.view r.view rows l.ends r.ends here.left.0 here.right.0 here.sizes.bound found) where
+      verdict_ahead : (why : Reason) → found ≡ Some why → verdict s z here.left.0 here.right.0 ≡ parted_by (ahead (listed l.view.labels l.view.to why))
+      verdict_ahead why e =
           rw (← listed_is l.view.starts l.view.labels l.view.to why)
-          (verdict_left s z _ _ _ (rw g.ground.bound at (answer_some _ _ z l.view r.view rows l.ends r.ends _ _ _ why w ahead_posed n)))
+          (verdict_left s z _ _ _ (rw g.ground.bound at (answer_some _ _ z l.view r.view rows l.ends r.ends _ _ _ found w ahead_posed why e)))
 
-      module _ (none : why.kind ≡ 0) (why' : Reason)
-          (w' : Answered r.view l.view columns r.ends l.ends here.right.0 here.left.0 here.sizes.bound why') where
-        verdict_back : s.sides ≡ two_sided → (why'.kind ≡ 0 → ⊥) → verdict s z here.left.0 here.right.0 ≡ parted_by (back (listed r.view.labels r.view.to why'))
-        verdict_back both n =
-            rw (← listed_is r.view.starts r.view.labels r.view.to why')
-            (verdict_right s z _ _ (rw g.ground.bound at (answer_chosen_none _ _ z l.view r.view rows l.ends r.ends _ _ _ why w ahead_posed none))
+      module _ (none : found ≡ None) (found' : Option Reason)
+          (w' : Answered r.view l.view columns r.ends l.ends here.right.0 here.left.0 here.sizes.bound found') where
+        verdict_back : s.sides ≡ two_sided → (why : Reason) → found' ≡ Some why
+            → verdict s z here.left.0 here.right.0 ≡ parted_by (back (listed r.view.labels r.view.to why))
+        verdict_back both why e =
+            rw (← listed_is r.view.starts r.view.labels r.view.to why)
+            (verdict_right s z _ _ (rw g.ground.bound at (answer_chosen_none _ _ z l.view r.view rows l.ends r.ends _ _ _ found w ahead_posed none))
             both _
-            (rw g.ground.bound at (answer_some _ _ (flip z) r.view l.view columns r.ends l.ends _ _ _ why' w' back_posed n)))
+            (rw g.ground.bound at (answer_some _ _ (flip z) r.view l.view columns r.ends l.ends _ _ _ found' w' back_posed why e)))
 
-        verdict_neither : why'.kind ≡ 0 → verdict s z here.left.0 here.right.0 ≡ remains
+        verdict_neither : found' ≡ None → verdict s z here.left.0 here.right.0 ≡ remains
         verdict_neither none' =
-            verdict_none s z _ _ (rw g.ground.bound at (answer_chosen_none _ _ z l.view r.view rows l.ends r.ends _ _ _ why w ahead_posed none))
-            (rw g.ground.bound at (answer_chosen_none _ _ (flip z) r.view l.view columns r.ends l.ends _ _ _ why' w' back_posed none'))
+            verdict_none s z _ _ (rw g.ground.bound at (answer_chosen_none _ _ z l.view r.view rows l.ends r.ends _ _ _ found w ahead_posed none))
+            (rw g.ground.bound at (answer_chosen_none _ _ (flip z) r.view l.view columns r.ends l.ends _ _ _ found' w' back_posed none'))
 
   -- ---- what the calls ask, and the ways out
   module _ (st : Stands (basis l r here.sizes rows columns) (place_of here) x) where
-    pub bounded : here.sizes.bound ≤ 4
+    bounded : here.sizes.bound ≤ 4
     bounded = omega (arith, st.round.ground.bound, st.round.ground.comparable.bound)
 
-    pub place_small : place_of here < 4096
-    place_small =
-        let g = st.round.ground.comparable in
-        let h = place_inside g st.before _ _ (place_of here) (at_place _ _ st.round st.standing) (in_left _ _ st.round st.standing) (in_right _ _ st.round st.standing) in
-        omega (arith, h, mul-le-mul g.small.0 g.small.1)
+    module _ (found : Option Reason) (w : Answered l.view r.view rows l.ends r.ends here.left.0 here.right.0 here.sizes.bound found) where
+      module _ (why : Reason) (e : found ≡ Some why) where
+        pub ahead_fits : PartFits x.room x.pen x.map (place_of here) l.view.labels l.view.to x.new here.left.0 here.right.0 why
+        ahead_fits =
+            fits _ _ st.round st.standing l.view.labels l.view.to why
+            (answer_puttable st.round.ground.comparable.narrow.0 l.view r.view rows l.ends r.ends _ _ _ found w
+            (ahead_posed _ _ st.round st.standing) bounded why e)
 
-    pub ahead_ready : Ready l.view r.view here.left.0 here.right.0
-    ahead_ready =
-        charted_ready st.round.ground.left st.round.ground.right _ _ (in_left _ _ st.round st.standing) (in_right _ _ st.round st.standing)
-
-    pub ahead_valued : Valued r.ends
-    ahead_valued = st.round.ground.right.valued
-
-    pub back_valued : Valued l.ends
-    back_valued = st.round.ground.left.valued
-
-    pub back_ready : Ready r.view l.view here.right.0 here.left.0
-    back_ready =
-        charted_ready st.round.ground.right st.round.ground.left _ _ (in_right _ _ st.round st.standing) (in_left _ _ st.round st.standing)
-
-    module _ (why : Reason) (w : Answered l.view r.view rows l.ends r.ends here.left.0 here.right.0 here.sizes.bound why) where
-      pub ahead_fits : (why.kind ≡ 0 → ⊥) → PartFits x.room x.pen x.map (place_of here) l.view.labels l.view.to x.new here.left.0 here.right.0 why
-      ahead_fits n =
-          fits _ _ st.round st.standing l.view.labels l.view.to why
-          (answer_puttable st.round.ground.comparable.narrow.0 l.view r.view rows l.ends r.ends _ _ _ why w
-          (ahead_posed _ _ st.round st.standing) bounded n)
-
-      -- by a reason from the left, where so many sides count
-      goes_by : (b : Bool) → here.sizes.both ≡ b → (x' : Lists) → (why.kind ≡ 0 → ⊥)
-          → Parted (sides_of b) x x' (place_of here) here.left.0 here.right.0 (ahead (listed l.view.labels l.view.to why))
-          → Goes (basis l r here.sizes rows columns) (place_of here) (suc (place_of here)) x x'
-      goes_by b e x' n p =
-          record { next = λ s k g t. standing_parted s k g t x' _ (verdict_ahead s k g t why w n) (rw (g.ground.sides, e) p); onward = p.onward }
-
-      pub ahead_goes : here.sizes.both ≡ true → (x' : Lists) → (why.kind ≡ 0 → ⊥)
-          → Parted two_sided x x' (place_of here) here.left.0 here.right.0 (cause_in l.view.labels l.view.to true why)
-          → Goes (basis l r here.sizes rows columns) (place_of here) (suc (place_of here)) x x'
-      ahead_goes = goes_by true
-
-      pub left_goes : here.sizes.both ≡ false → (x' : Lists) → (why.kind ≡ 0 → ⊥)
-          → Parted one_sided x x' (place_of here) here.left.0 here.right.0 (ahead (listed l.view.labels l.view.to why))
-          → Goes (basis l r here.sizes rows columns) (place_of here) (suc (place_of here)) x x'
-      left_goes = goes_by false
-
-      -- no reason from the left, which alone counts
-      pub covered_goes : here.sizes.both ≡ false → why.kind ≡ 0 → Goes (basis l r here.sizes rows columns) (place_of here) (suc (place_of here)) x x
-      covered_goes e none =
-          record {
-            next = λ s k g t. standing_stays s k g t
-                (verdict-alone s _ _ _ (rw g.ground.bound at (answer_chosen_none _ _ _ l.view r.view rows l.ends r.ends _ _ _ why w (ahead_posed s k g t) none))
-                (g.ground.sides ∙ ap sides_of e));
-            onward = onward_none x.room x.pen.at;
-          }
-
-      module _ (none : why.kind ≡ 0) (why' : Reason)
-          (w' : Answered r.view l.view columns r.ends l.ends here.right.0 here.left.0 here.sizes.bound why') where
-        pub back_fits : (why'.kind ≡ 0 → ⊥) → PartFits x.room x.pen x.map (place_of here) r.view.labels r.view.to x.new here.left.0 here.right.0 why'
-        back_fits n =
-            fits _ _ st.round st.standing r.view.labels r.view.to why'
-            (answer_puttable st.round.ground.comparable.narrow.1 r.view l.view columns r.ends l.ends _ _ _ why' w'
-            (back_posed _ _ st.round st.standing) bounded n)
-
-        pub back_goes : here.sizes.both ≡ true → (x' : Lists) → (why'.kind ≡ 0 → ⊥) → Parted two_sided x x' (place_of here) here.left.0 here.right.0 (cause_in r.view.labels r.view.to false why')
+        -- by a reason from the left, where so many sides count
+        goes_by : (b : Bool) → here.sizes.both ≡ b → (x' : Lists)
+            → Parted (sides_of b) x x' (place_of here) here.left.0 here.right.0 (ahead (listed l.view.labels l.view.to why))
             → Goes (basis l r here.sizes rows columns) (place_of here) (suc (place_of here)) x x'
-        back_goes e x' n p =
+        goes_by b d x' p =
+            record { next = λ s k g t. standing_parted s k g t x' _ (verdict_ahead s k g t found w why e) (rw (g.ground.sides, d) p); onward = p.onward }
+
+        pub ahead_goes : here.sizes.both ≡ true → (x' : Lists)
+            → Parted two_sided x x' (place_of here) here.left.0 here.right.0 (cause_in l.view.labels l.view.to true why)
+            → Goes (basis l r here.sizes rows columns) (place_of here) (suc (place_of here)) x x'
+        ahead_goes = goes_by true
+
+        pub left_goes : here.sizes.both ≡ false → (x' : Lists)
+            → Parted one_sided x x' (place_of here) here.left.0 here.right.0 (ahead (listed l.view.labels l.view.to why))
+            → Goes (basis l r here.sizes rows columns) (place_of here) (suc (place_of here)) x x'
+        left_goes = goes_by false
+
+      module _ (none : found ≡ None) where
+        -- no reason from the left, which alone counts
+        pub covered_goes : here.sizes.both ≡ false → Goes (basis l r here.sizes rows columns) (place_of here) (suc (place_of here)) x x
+        covered_goes d =
             record {
-              next = λ s k g t.
-                  let both = g.ground.sides ∙ ap sides_of e in
-                  standing_parted s k g t x' _ (verdict_back s k g t why w none why' w' both n) (rw both p);
-              onward = p.onward;
+              next = λ s k g t. standing_stays s k g t
+                  (verdict-alone s _ _ _ (rw g.ground.bound at (answer_chosen_none _ _ _ l.view r.view rows l.ends r.ends _ _ _ found w (ahead_posed s k g t) none))
+                  (g.ground.sides ∙ ap sides_of d));
+              onward = onward_none x.room x.pen.at;
             }
 
-        pub stays_goes : why'.kind ≡ 0 → Goes (basis l r here.sizes rows columns) (place_of here) (suc (place_of here)) x x
-        stays_goes none' =
-            record { next = λ s k g t. standing_stays s k g t (verdict_neither s k g t why w none why' w' none'); onward = onward_none x.room x.pen.at }
+        module _ (found' : Option Reason) (w' : Answered r.view l.view columns r.ends l.ends here.right.0 here.left.0 here.sizes.bound found') where
+          module _ (why : Reason) (e : found' ≡ Some why) where
+            pub back_fits : PartFits x.room x.pen x.map (place_of here) r.view.labels r.view.to x.new here.left.0 here.right.0 why
+            back_fits =
+                fits _ _ st.round st.standing r.view.labels r.view.to why
+                (answer_puttable st.round.ground.comparable.narrow.1 r.view l.view columns r.ends l.ends _ _ _ found' w'
+                (back_posed _ _ st.round st.standing) bounded why e)
+
+            pub back_goes : here.sizes.both ≡ true → (x' : Lists) → Parted two_sided x x' (place_of here) here.left.0 here.right.0 (cause_in r.view.labels r.view.to false why)
+                → Goes (basis l r here.sizes rows columns) (place_of here) (suc (place_of here)) x x'
+            back_goes d x' p =
+                record {
+                  next = λ s k g t.
+                      let both = g.ground.sides ∙ ap sides_of d in
+                      standing_parted s k g t x' _ (verdict_back s k g t found w none found' w' both why e) (rw both p);
+                  onward = p.onward;
+                }
+
+          pub stays_goes : found' ≡ None → Goes (basis l r here.sizes rows columns) (place_of here) (suc (place_of here)) x x
+          stays_goes none' =
+              record { next = λ s k g t. standing_stays s k g t (verdict_neither s k g t found w none found' w' none'); onward = onward_none x.room x.pen.at }

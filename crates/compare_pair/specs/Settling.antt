@@ -4,6 +4,7 @@ use Rattle.std.specs.Prelude.{false, List, ◌≡◌, ℕ, suc, ◌+◌, ◌*◌
 use Rattle.std.proofs.Math.Bool.{So}
 use Rattle.theory.specs.Bisimulation.{Relation, flip, sides_of}
 use Rattle.search_links.specs.Hops.{View, view_of}
+use Rattle.search_links.specs.declared.side.Side.{Side}
 use Rattle.search.specs.Reasons.{Charted}
 use Rattle.compare_laws.specs.Setting.{Setting, pairs, relation_after}
 use Rattle.compare_laws.specs.Room.{room_needed}
@@ -25,6 +26,10 @@ pub record Chart : Type 0 where
 -- By its lists one by one.
 abbrev pub chart : List ℕ → List ℕ → List ℕ → List ℕ → Chart
 chart starts labels to ends = record { view = view_of starts labels to; ends = ends }
+
+-- Of a side of the search.
+abbrev pub chart_of : Side → Chart
+chart_of a = chart a.starts a.labels a.to a.ends
 
 -- The lists of two books show the setting's graphs, and the sizes are its own.
 pub record Ground (s : Setting) (l r : Chart) (z : Sizes) : Type 0 where

@@ -8,11 +8,11 @@ use Prim.Native.Nat.{ℕ, suc, ◌+◌, ◌*◌, ◌≤◌, ◌<◌}
 use native.Mathlib.Nat.{le_refl, mul-le-mul_right, suc-mul, add-zero, zero-mul}
 use native.Mathlib.Numerals.{add-one}
 use native.Mathlib.Omega.{arith}
-use borrow.Author.Tests.{eqb-true, ltb-true}
-use lib.Dec.{ltb}
+use borrow.Author.Tests.{eqb-true}
+use Rattle.std.specs.Prelude.{Option, Some, None}
 use lib.ListN.{length, get_or}
 use Rattle.theory.specs.Bisimulation.{sides_of}
-use Rattle.theory.proofs.TestLaws.{and_iff, or_iff}
+use Rattle.theory.proofs.TestLaws.{never, and_iff, or_iff}
 use Rattle.compare_laws.specs.Places.{placed, unparted}
 use Rattle.compare_laws.proofs.PlaceLaws.{place_below}
 use Rattle.compare_laws.specs.Setting.{Setting}
@@ -24,7 +24,7 @@ use Rattle.compare_entries.specs.GrowingLaws.{onward_none}
 use Rattle.compare_pair.specs.declared.Case.{Case}
 use Rattle.compare_pair.specs.Settling.{Basis, Round, Standing, Stands, Goes, Undecided}
 use Rattle.compare_pair.proofs.Laws.{goes_none, goes_more, goes_stands}
-use Rattle.compare_round.specs.Twins.{twin_of, Twin}
+use Rattle.compare_round.specs.Twins.{twin_of, shares, Twin}
 use Rattle.compare_round.proofs.Twins.{twin_next, twin_still}
 
 -- ---- a place with nothing to do, of a round that stands before it
@@ -96,24 +96,24 @@ module _ {by : Basis} {p : ℕ} {x : Lists} (st : Stands by p x) where
 -- ---- a row
 
 -- The round stands before column j of the row, and `twin` is the row's twin.
-pub record InRow (by : Basis) (i j twin : ℕ) (x₀ x : Lists) : Type 0 where
+pub record InRow (by : Basis) (i j : ℕ) (twin : Option ℕ) (x₀ x : Lists) : Type 0 where
   pub begun : Stands by (i * by.sizes.right) x₀
   pub goes : Goes by (i * by.sizes.right) (i * by.sizes.right + j) x₀ x
   pub row : i < by.sizes.left
   pub within : j ≤ by.sizes.right
   pub shares : Twin by.sizes.right x.map i j twin
 
-pub row_begun : {by : Basis} {i : ℕ} {x : Lists} → Stands by (i * by.sizes.right) x → i < by.sizes.left → InRow by i 0 i x x
+pub row_begun : {by : Basis} {i : ℕ} {x : Lists} → Stands by (i * by.sizes.right) x → i < by.sizes.left → InRow by i 0 None x x
 row_begun {by} {i} {x} st o =
     record {
       begun = st;
       goes = rw add-zero (goes_none by (i * by.sizes.right) x);
       row = o;
       within = omega arith;
-      shares = record { upto = le_refl i; shared = λ h. absurd (omega arith) };
+      shares = record { before = record { row = λ a d. absurd (cc) }; shared = λ a d. absurd (cc) };
     }
 
-module _ {by : Basis} {i j twin : ℕ} {x₀ x : Lists} (inv : InRow by i j twin x₀ x) where
+module _ {by : Basis} {i j : ℕ} {twin : Option ℕ} {x₀ x : Lists} (inv : InRow by i j twin x₀ x) where
   pub row_stands : Stands by (i * by.sizes.right + j) x
   row_stands = goes_stands inv.begun inv.goes
 
@@ -129,9 +129,6 @@ module _ {by : Basis} {i j twin : ℕ} {x₀ x : Lists} (inv : InRow by i j twin
   width_small = right_few inv.begun
 
   module _ (h : j < by.sizes.right) where
-    pub place_small : i * by.sizes.right + j < 4096
-    place_small = omega (arith, place_below 64 by.sizes.right i j row_small h, width_small)
-
     before-end : i * by.sizes.right + j < by.sizes.left * by.sizes.right
     before-end = place_below by.sizes.left by.sizes.right i j inv.row h
 
@@ -147,7 +144,7 @@ module _ {by : Basis} {i j twin : ℕ} {x₀ x : Lists} (inv : InRow by i j twin
       inside_next = rw (map_size next_stands (omega (arith, before-end))) before-end
 
       -- the next column
-      pub row_next : (twin' : ℕ) → twin' ≡ twin_of by.sizes.right x'.map i j twin → InRow by i (j + 1) twin' x₀ x'
+      pub row_next : (twin' : Option ℕ) → twin' ≡ twin_of by.sizes.right x'.map i j twin → InRow by i (j + 1) twin' x₀ x'
       row_next twin' e =
           let d : suc (i * by.sizes.right + j) ≡ i * by.sizes.right + (j + 1) = omega arith in
           rw e (record {
@@ -184,17 +181,16 @@ module _ {by : Basis} {i j twin : ℕ} {x₀ x : Lists} (inv : InRow by i j twin
     next_parted = parted_goes by i j x inv.row h
 
     -- a pair that stays, as is known or by the twin
-    pub next_stays : {b : Bool} → b ≡ (by.idle i j || (by.sizes.both && (ltb twin i && unparted by.sizes.right x.map twin j))) → b ≡ true
+    pub next_stays : {b : Bool} → b ≡ (by.idle i j || (by.sizes.both && shares by.sizes.right x.map twin j)) → b ≡ true
         → Goes by (i * by.sizes.right + j) (suc (i * by.sizes.right + j)) x x
-    next_stays {b} e t = ⊎_elim (idle_goes by i j x inv.row h) followed ((or_iff _ _).0 (sym e ∙ t))
+    next_stays {b} e t = ⊎_elim (idle_goes by i j x inv.row h) (λ f. let (w, z) = simp and_iff at f in followed w twin refl z) ((or_iff _ _).0 (sym e ∙ t))
       where
-        followed : So (by.sizes.both && (ltb twin i && unparted by.sizes.right x.map twin j))
+        followed : by.sizes.both ≡ true → (o : Option ℕ) → twin ≡ o → So (shares by.sizes.right x.map o j)
             → Goes by (i * by.sizes.right + j) (suc (i * by.sizes.right + j)) x x
-        followed f =
-            let (w, (k, z)) = simp and_iff at f in
-            let l = ltb-true twin i k in
-            let (y, v, a, a') = inv.shares.shared l in
-            shared_goes by i j x inv.row h w twin y l v a a' (eqb-true _ 0 z)
+        followed w None d z = never z
+        followed w (Some a) d z =
+            let (y, v, p, q) = inv.shares.shared a d in
+            shared_goes by i j x inv.row h w a y (inv.shares.before.row a d) v p q (eqb-true _ 0 z)
 
 -- ---- all rows
 
@@ -210,9 +206,6 @@ map_begun {by} {x} st = record { begun = st; goes = rw zero-mul (goes_none by 0 
 module _ {by : Basis} {i : ℕ} {x₀ x : Lists} (inv : InMap by i x₀ x) where
   pub map_stands : Stands by (i * by.sizes.right) x
   map_stands = goes_stands inv.begun inv.goes
-
-  pub rows_few : by.sizes.left ≤ 64
-  rows_few = left_few inv.begun
 
   pub map_next : {x' : Lists} → i < by.sizes.left → Goes by (i * by.sizes.right) (suc i * by.sizes.right) x x' → InMap by (i + 1) x₀ x'
   map_next h step = record { begun = inv.begun; goes = rw add-one (goes_more inv.goes step); within = omega arith }

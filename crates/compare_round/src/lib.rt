@@ -3,59 +3,56 @@
 // a pair that stays are equal (theory, `RowLaws`).
 #![tactic(auto)]
 
-ghost use Rattle.std.specs.Prelude.{◌&&◌, ◌||◌, ◌≡◌, suc, ◌+◌, ◌*◌, ◌<◌, ltb, length};
-ghost use Rattle.compare_laws.specs.Places.{unparted};
+ghost use Rattle.std.specs.Prelude.{◌&&◌, ◌||◌, ◌≡◌, suc, ◌+◌, ◌*◌, ◌<◌, length};
 ghost use Rattle.compare_entries.specs.Parting.{lists};
-ghost use Rattle.compare_pair.specs.Settling.{chart, basis_with, Stands, Goes};
+ghost use Rattle.compare_pair.specs.Settling.{chart_of, basis_with, Stands, Goes};
 ghost use Rattle.compare_round.specs.Idle.{idle_in};
-ghost use Rattle.compare_round.specs.Twins.{first_row, twin_of};
+ghost use Rattle.compare_round.specs.Twins.{earlier, first_row, twin_of, shares, Before};
 
 use book::{LeftCell, RightCell};
 use compare_entries::Pen;
 use compare_pair::{Case, Sizes};
+use search_links::Side;
 
-// The first row before row i whose place in column j holds 0, or i where there is none. A row has m places.
-fn first_row(map: &[u16], m: usize, i: usize, j: usize) -> usize
+// The first row before row i whose place in column j holds 0. A row has m places.
+fn first_row(map: &[u16], m: usize, i: usize, j: usize) -> Option<usize>
     requires { i * m + j < length map.now }
-    ensures { result ≡ first_row m map.now i j }
+    ensures { result ≡ earlier i (first_row m map.now i j) }
 {
-    let mut x = 0;
-    while x < i {
+    for x in 0..i {
         if map[x * m + j] == 0 {
-            return x;
+            return Some(x);
         }
-        x += 1;
     }
-    x
+    None
 }
 
-// The twin of row i, a row before it that shares an unparted pair with it, or i where none is known, after column j. `twin` is that before
-// column j.
-fn twin_of(map: &[u16], m: usize, i: usize, j: usize, twin: usize) -> usize
+// The twin of row i, a row before it that shares an unparted pair with it, where one is known, after column j. `twin` is that before column j.
+fn twin_of(map: &[u16], m: usize, i: usize, j: usize, twin: Option<usize>) -> Option<usize>
     requires { i * m + j < length map.now }
     ensures { result ≡ twin_of m map.now i j twin }
 {
-    if twin < i {
+    if twin.is_some() {
         return twin;
     }
     if map[i * m + j] == 0 {
         return first_row(map, m, i, j);
     }
-    i
+    None
 }
 
-// Whether the pair (i, j) stays by row i's twin: both sides count, the twin is a row before, and its place in column j holds 0.
-fn follows(map: &[u16], m: usize, i: usize, j: usize, twin: usize, both: bool) -> bool
-    requires { i * m + j < length map.now }
-    ensures { result ≡ (both && (ltb twin i && unparted m map.now twin j)) }
+// Whether the pair (i, j) stays by row i's twin: both sides count, there is a twin, and its place in column j holds 0.
+fn follows(map: &[u16], m: usize, i: usize, j: usize, twin: Option<usize>, both: bool) -> bool
+    requires { (i * m + j < length map.now) × Before i twin }
+    ensures { result ≡ (both && shares m map.now twin j) }
 {
     if !both {
         return false;
     }
-    if twin < i {
-        return map[twin * m + j] == 0;
+    match twin {
+        Some(x) => map[x * m + j] == 0,
+        None => false,
     }
-    false
 }
 
 // The cells that a round has to look at: a pair stays, unless its left and its right cell are both among them.
@@ -66,9 +63,9 @@ pub struct Live {
 }
 
 // Whether the pair (i, j) stays: by the cells that the round has to look at, or by row i's twin.
-fn stays(map: &[u16], i: usize, j: usize, twin: usize, sizes: Sizes, live: Live) -> bool
-    requires { (i * sizes.right + j < length map.now) × (i < 64) × (j < 64) }
-    ensures { result ≡ (idle_in live i j || (sizes.both && (ltb twin i && unparted sizes.right map.now twin j))) }
+fn stays(map: &[u16], i: usize, j: usize, twin: Option<usize>, sizes: Sizes, live: Live) -> bool
+    requires { (i * sizes.right + j < length map.now) × (i < 64) × (j < 64) × Before i twin }
+    ensures { result ≡ (idle_in live i j || (sizes.both && shares sizes.right map.now twin j)) }
 {
     if !words::has(live.left, i as u8) {
         return true;
@@ -89,14 +86,8 @@ pub struct Row {
 
 // Settles the pairs of a row. The other parameters are those of `compare_pair::settle`.
 fn settle_row(
-    sa: &[u16; 65],
-    la: &[u16; 512],
-    ta: &[u8; 512],
-    ea: &[u64; 128],
-    sb: &[u16; 65],
-    lb: &[u16; 512],
-    tb: &[u8; 512],
-    eb: &[u64; 128],
+    a: &Side,
+    b: &Side,
     rows: &[u64; 64],
     columns: &[u64; 64],
     old: &[u16; 128],
@@ -106,14 +97,14 @@ fn settle_row(
     new: &mut [u16; 128],
     row: Row,
 ) -> Pen
-    requires { Stands (basis_with (idle_in row.live) (chart sa.now la.now ta.now ea.now) (chart sb.now lb.now tb.now eb.now) row.sizes rows.now columns.now) (row.number * row.sizes.right) (lists room.old pen map.old old.now new.old) × (row.number < row.sizes.left) }
-    ensures { Goes (basis_with (idle_in row.live) (chart sa.now la.now ta.now ea.now) (chart sb.now lb.now tb.now eb.now) row.sizes rows.now columns.now) (row.number * row.sizes.right) (suc row.number * row.sizes.right) (lists room.old pen map.old old.now new.old) (lists room.new result map.new old.now new.new) }
+    requires { Stands (basis_with (idle_in row.live) (chart_of a.now) (chart_of b.now) row.sizes rows.now columns.now) (row.number * row.sizes.right) (lists room.old pen map.old old.now new.old) × (row.number < row.sizes.left) }
+    ensures { Goes (basis_with (idle_in row.live) (chart_of a.now) (chart_of b.now) row.sizes rows.now columns.now) (row.number * row.sizes.right) (suc row.number * row.sizes.right) (lists room.old pen map.old old.now new.old) (lists room.new result map.new old.now new.new) }
 {
     let sizes = row.sizes;
     let m = sizes.right;
     let i = row.number;
     let mut p = pen;
-    let mut twin = i;
+    let mut twin = None;
     for column in 0..m {
         let place = i * m + column;
         let still = map[place] == 0;
@@ -126,9 +117,7 @@ fn settle_row(
                     left: LeftCell(left),
                     right: RightCell(right),
                 };
-                p = compare_pair::settle(
-                    sa, la, ta, ea, sb, lb, tb, eb, rows, columns, old, room, p, map, new, here,
-                );
+                p = compare_pair::settle(a, b, rows, columns, old, room, p, map, new, here);
             }
         }
         twin = twin_of(map, m, i, column, twin);
@@ -138,14 +127,8 @@ fn settle_row(
 
 // Settles all pairs. The other parameters are those of `compare_pair::settle`.
 pub fn settle_all(
-    sa: &[u16; 65],
-    la: &[u16; 512],
-    ta: &[u8; 512],
-    ea: &[u64; 128],
-    sb: &[u16; 65],
-    lb: &[u16; 512],
-    tb: &[u8; 512],
-    eb: &[u64; 128],
+    a: &Side,
+    b: &Side,
     rows: &[u64; 64],
     columns: &[u64; 64],
     old: &[u16; 128],
@@ -156,8 +139,8 @@ pub fn settle_all(
     sizes: Sizes,
     live: Live,
 ) -> Pen
-    requires { Stands (basis_with (idle_in live) (chart sa.now la.now ta.now ea.now) (chart sb.now lb.now tb.now eb.now) sizes rows.now columns.now) 0 (lists room.old pen map.old old.now new.old) }
-    ensures { Goes (basis_with (idle_in live) (chart sa.now la.now ta.now ea.now) (chart sb.now lb.now tb.now eb.now) sizes rows.now columns.now) 0 (sizes.left * sizes.right) (lists room.old pen map.old old.now new.old) (lists room.new result map.new old.now new.new) }
+    requires { Stands (basis_with (idle_in live) (chart_of a.now) (chart_of b.now) sizes rows.now columns.now) 0 (lists room.old pen map.old old.now new.old) }
+    ensures { Goes (basis_with (idle_in live) (chart_of a.now) (chart_of b.now) sizes rows.now columns.now) 0 (sizes.left * sizes.right) (lists room.old pen map.old old.now new.old) (lists room.new result map.new old.now new.new) }
 {
     let n = sizes.left;
     let mut p = pen;
@@ -167,9 +150,7 @@ pub fn settle_all(
             number: row,
             live,
         };
-        p = settle_row(
-            sa, la, ta, ea, sb, lb, tb, eb, rows, columns, old, room, p, map, new, this,
-        );
+        p = settle_row(a, b, rows, columns, old, room, p, map, new, this);
     }
     p
 }

@@ -9,7 +9,6 @@ use lib.ListN.{length}
 use Rattle.theory.specs.Bisimulation.{Relation, flip}
 use Rattle.theory.proofs.GreatestLaws.{Near, near_kept, after_inside}
 use Rattle.words.specs.Words.{bit}
-use Rattle.search_links.specs.Hops.{Opened}
 use Rattle.compare_laws.specs.Setting.{Setting, pairs, relation_after}
 use Rattle.compare_laws.specs.Comparison.{State, turned, upto, states, state_at}
 use Rattle.compare_laws.proofs.DefinedLaws.{state_refined, still_last, entries_few}
@@ -175,13 +174,9 @@ module _ {l r : Chart} {z : Sizes} where
 
       module _ {room' : List ℕ} {pen' : Pen} {map' new' : List ℕ}
           (goes : Goes (basis_with idle l r z rows columns) 0 (z.left * z.right) (at_rest room pen map new) (lists room' pen' map' new new')) where
-        -- the lists can be gone through again
-        pub opened-next : Opened l.view.starts l.view.to × Opened r.view.starts r.view.to × Mapped map' z.left z.right
-        opened-next = (
-          o.ground.left.ordered.opened,
-          o.ground.right.ordered.opened,
-          sizes _ _ o.ground (next-round _ _ o.ground o.standing o.known dr dc goes),
-        )
+        -- the map has as many rows and columns as before
+        pub mapped-next : Mapped map' z.left z.right
+        mapped-next = sizes _ _ o.ground (next-round _ _ o.ground o.standing o.known dr dc goes)
 
         pub turned_round : (live : Live) → live ≡ live_after l.view.starts l.view.to r.view.starts r.view.to rows columns map' z
             → Turned l r z idle (idle_in live) (at_rest room pen map new) (at_rest room' pen' map' new')

@@ -4,7 +4,7 @@
 -- definitions, and that no function asks anything of its caller.
 -- The definitions that a theorem names are found by the `use` lines; what 000 says of their meaning is `Figure3Laws` of the theory, and what the macros
 -- of include/cuhnavel.h take out of an answer is `OutcomeLaws` of outcome and of each operation's crate.
-use Rattle.std.specs.Prelude.{true, false, ◌&&◌, ◌||◌, List, ◌++◌, ◌↔◌, ◌≢◌, ◌≡◌, refl, ℕ, ◌+◌, ◌-◌, ◌*◌, ◌≤◌, ◌<◌, ltb, take, drop, get_or}
+use Rattle.std.specs.Prelude.{Bool, true, false, ◌&&◌, ◌||◌, List, ◌++◌, ◌↔◌, ◌≢◌, ◌≡◌, refl, ℕ, ◌+◌, ◌-◌, ◌*◌, ◌≤◌, ◌<◌, ltb, take, drop, get_or, Result, Ok}
 use Rattle.std.proofs.Math.Bool.{not}
 use Rattle.std.proofs.Common.{sym, ◌∙◌, arith}
 use Rattle.std.proofs.Math.Path.{ap}
@@ -19,32 +19,27 @@ use Rattle.theory.specs.Parting.{LeastDepth}
 use Rattle.words.specs.Words.{bit}
 use Rattle.words.specs.Laws.{bit-word_of, bit-word_of-lt}
 use Rattle.outcome.specs.Outcome.{code}
+use Rattle.outcome.specs.declared.Refused.{Refused}
 use Rattle.book.specs.declared.Hidden.{Hidden}
 use Rattle.book.specs.Book.{cells_of, book_refusal}
 use Rattle.book.specs.BookGraph.{hides, hides_beyond, hiding, seen_of, Cell}
 use Rattle.book.specs.Contents.{SameContents, SameSeen}
 use Rattle.book.specs.AcceptedLaws.{book_sizes}
-use Rattle.sheet.specs.Sheet.{hidden_place, length_of, count_of, question_of, sheet_refusal, sheet_answer}
-use Rattle.sheet.specs.declared.SheetAnswer.TheVariants.{Accepted}
+use Rattle.sheet.specs.Sheet.{hidden_place, length_of, count_of, question_of, sheet_refusal, heading, sheet_answer}
 use Rattle.evaluate.specs.QuestionWord.{question_word}
 use Rattle.evaluate.specs.WritingLaws.{over-at}
-use Rattle.truth.specs.declared.TruthAnswer.{TruthAnswer}
-use Rattle.truth.specs.declared.TruthAnswer.TheVariants as told
-use Rattle.truth.specs.declared.ClaimAnswer.{ClaimAnswer}
 use Rattle.truth.specs.Truth.{first_words, truth_answer, truth_outcome, claim_answer, claim_outcome, IsTruth, IsTruthCode, IsClaim, IsClaimCode}
 use Rattle.truth.specs.Truth as truth
 use Rattle.truth.specs.SecrecyLaws.{truth_alike, claim_alike}
-use Rattle.answers.specs.Row.{zero_from, row_word, row_count, row_answer}
+use Rattle.answers.specs.Row.{zero_from, row, row_word, row_count, row_answer}
 use Rattle.answers.specs.RowLaws.{row-given}
-use Rattle.answers.specs.declared.RowAnswer.TheVariants as row
 use Rattle.answers.specs.Pair.{place_of, place_answer, pair_answer}
 use Rattle.answers.specs.PairLaws.{pair_given}
-use Rattle.answers.specs.declared.PairAnswer.TheVariants as pair
+use Rattle.answers.specs.declared.Said.TheVariants as pair
 use Rattle.compare_laws.specs.Places.{placed, zeros, zero_pairs}
 use Rattle.compare_laws.proofs.PlaceLaws.{place_below}
-use Rattle.compare.specs.declared.CompareAnswer.{CompareAnswer}
-use Rattle.compare.specs.declared.CompareAnswer.TheVariants as says
-use Rattle.compare.specs.Compare.{compared_map, compared_sheet, Lists, left_by, right_answer, compare_outcome, IsCompare, IsCompareCode, Accepts}
+use Rattle.compare.specs.declared.Compared.{Compared}
+use Rattle.compare.specs.Compare.{serves, compared_map, compared_sheet, Lists, left_by, right_answer, compare_outcome, IsCompare, IsCompareCode, Accepts}
 use Rattle.compare.specs.Parted.{PartedBy}
 use Rattle.compare.specs.Promises.{Given, map_places, hidden-place, sheet_accepted, sheet_found, zeros_greatest, zero_keeps, nonzero_least, nonzero_parts, zero_exactly, contents_alike}
 use Rattle.compare.specs.SecrecyLaws.{seen_compared}
@@ -56,12 +51,12 @@ use Rattle.compare.specs.Laws.{accepts_compared}
 abbrev pub sheet_in : List ℕ → List ℕ
 sheet_in room = take (length_of room) room
 
-module _ {x : Sides} {l r : List ℕ} {c : ℕ} {hidden : Hidden} {before now : Lists} {a : CompareAnswer} (t : IsCompare x l r c hidden before a now) (bytes : Bytes l × Bytes r)
+module _ {x : Sides} {l r : List ℕ} {c : ℕ} {hidden : Hidden} {before now : Lists} {a : Result Compared Refused} (t : IsCompare x l r c hidden before a now) (bytes : Bytes l × Bytes r)
     (given : Accepts l r c hidden (length before.map) (length before.room) (length before.scratch)) where
-  is_compared : right_answer x l r c hidden before ≡ says.Compared (length (compared_sheet x l r c hidden)) (zeros (compared_map x l r c hidden))
+  is_compared : right_answer x l r c hidden before ≡ serves (length (compared_sheet x l r c hidden)) (zeros (compared_map x l r c hidden))
   is_compared = accepts_compared l r c hidden _ _ _ _ _ given
 
-  left : now ≡ left_by x l r c hidden before (says.Compared (length (compared_sheet x l r c hidden)) (zeros (compared_map x l r c hidden)))
+  left : now ≡ left_by x l r c hidden before (serves (length (compared_sheet x l r c hidden)) (zeros (compared_map x l r c hidden)))
   left = t.lists ∙ ap (left_by x l r c hidden before) is_compared
 
   map_is : now.map ≡ compared_map x l r c hidden
@@ -79,11 +74,11 @@ module _ {x : Sides} {l r : List ℕ} {c : ℕ} {hidden : Hidden} {before now : 
   sheet_is = ap sheet_in room_is ∙ sheet_found x hidden books (drop (length (compared_sheet x l r c hidden)) before.room)
 
   -- For accepted books, a bound of 0 to 4 and lists as long as 01 asks for, Compare, one-way too, answers with the length of the sheet and the number of zeros;
-  pub answers : a ≡ says.Compared (length (sheet_in now.room)) (zeros now.map)
+  pub answers : a ≡ serves (length (sheet_in now.room)) (zeros now.map)
   answers = t.answer ∙ is_compared ∙ rw (sheet_is, map_is)
 
   -- the sheet at the room's start is accepted, with bound c.
-  pub accepts_sheet : sheet_answer (sheet_in now.room) ≡ Accepted (count_of (sheet_in now.room)) c
+  pub accepts_sheet : sheet_answer (sheet_in now.room) ≡ Ok (heading (count_of (sheet_in now.room)) c)
   accepts_sheet = rw sheet_is (sheet_accepted x hidden books)
 
   module _ (i j : ℕ) (o : Cell hidden.left l i) (u : Cell hidden.right r j) where
@@ -97,7 +92,7 @@ module _ {x : Sides} {l r : List ℕ} {c : ℕ} {hidden : Hidden} {before now : 
         → LeastDepth x (seen_of hidden.left l) (seen_of hidden.right r) c i j (depth (question_of (sheet_in now.room) (placed (cells_of r) now.map i j)))
     named_least = rw (map_is, sheet_is) (nonzero_least x hidden books i j o u)
 
-module _ {l r : List ℕ} {c : ℕ} {hidden : Hidden} {before now : Lists} {a : CompareAnswer} (t : IsCompare two_sided l r c hidden before a now) (bytes : Bytes l × Bytes r)
+module _ {l r : List ℕ} {c : ℕ} {hidden : Hidden} {before now : Lists} {a : Result Compared Refused} (t : IsCompare two_sided l r c hidden before a now) (bytes : Bytes l × Bytes r)
     (given : Accepts l r c hidden (length before.map) (length before.room) (length before.scratch)) where
   -- Demand 2: "For accepted books and a bound of 0 to 4, the pairs marked matched are the greatest data-aware bisimulation for that bound: they form one, and
   -- every other lies within." Every other relation at all, computed or not: `Greatest` says so.
@@ -115,7 +110,7 @@ module _ {l r : List ℕ} {c : ℕ} {hidden : Hidden} {before now : Lists} {a : 
 
 -- ---- what Compare leaves one-way (02, 2026-03)
 
-module _ {l r : List ℕ} {c : ℕ} {hidden : Hidden} {before now : Lists} {a : CompareAnswer} (t : IsCompare one_sided l r c hidden before a now) (bytes : Bytes l × Bytes r)
+module _ {l r : List ℕ} {c : ℕ} {hidden : Hidden} {before now : Lists} {a : Result Compared Refused} (t : IsCompare one_sided l r c hidden before a now) (bytes : Bytes l × Bytes r)
     (given : Accepts l r c hidden (length before.map) (length before.room) (length before.scratch)) where
   -- "the greatest relation with the clauses from left to right only (a simulation in source 000)": the covered pairs are one, and every other lies within.
   pub covered_greatest : Greatest one_sided (seen_of hidden.left l) (seen_of hidden.right r) c (zero_pairs (seen_of hidden.left l) (seen_of hidden.right r) now.map)
@@ -135,7 +130,7 @@ module _ {l r : List ℕ} {c : ℕ} {hidden : Hidden} {before now : Lists} {a : 
     uncovered_told = named-parts t bytes given i j o u
 
 -- "Matched pairs are covered both ways": of three calls on two books and a bound.
-module _ {l r : List ℕ} {c : ℕ} {hidden : Hidden} {before now before₁ now₁ before₂ now₂ : Lists} {a a₁ a₂ : CompareAnswer} (t : IsCompare two_sided l r c hidden before a now)
+module _ {l r : List ℕ} {c : ℕ} {hidden : Hidden} {before now before₁ now₁ before₂ now₂ : Lists} {a a₁ a₂ : Result Compared Refused} (t : IsCompare two_sided l r c hidden before a now)
     (t₁ : IsCompare one_sided l r c hidden before₁ a₁ now₁) (t₂ : IsCompare one_sided r l c (hiding hidden.right hidden.left) before₂ a₂ now₂) (bytes : Bytes l × Bytes r)
     (given : Accepts l r c hidden (length before.map) (length before.room) (length before.scratch))
     (given₁ : Accepts l r c hidden (length before₁.map) (length before₁.room) (length before₁.scratch))
@@ -150,7 +145,7 @@ module _ {l r : List ℕ} {c : ℕ} {hidden : Hidden} {before now before₁ now�
 
 -- "Version 1 is still read, its labels as the same numbers" (02, 2026-02): two calls, of either form, on books with the same cells and links, of whatever versions, leave
 -- the same map, and so match or cover the same pairs.
-module _ {x : Sides} {l l' r r' : List ℕ} {c : ℕ} {hidden : Hidden} {before now before' now' : Lists} {a a' : CompareAnswer} (t : IsCompare x l r c hidden before a now) (t' : IsCompare x l' r' c hidden before' a' now')
+module _ {x : Sides} {l l' r r' : List ℕ} {c : ℕ} {hidden : Hidden} {before now before' now' : Lists} {a a' : Result Compared Refused} (t : IsCompare x l r c hidden before a now) (t' : IsCompare x l' r' c hidden before' a' now')
     (bytes : (Bytes l × Bytes r) × (Bytes l' × Bytes r')) (given : Accepts l r c hidden (length before.map) (length before.room) (length before.scratch))
     (given' : Accepts l' r' c hidden (length before'.map) (length before'.room) (length before'.scratch)) where
   pub versions_alike : SameContents l l' → SameContents r r' → now.map ≡ now'.map
@@ -159,7 +154,7 @@ module _ {x : Sides} {l l' r r' : List ℕ} {c : ℕ} {hidden : Hidden} {before 
 -- ---- private pages (02, 2026-07)
 
 -- "Map places with a hidden cell get 65,535, Pair says hidden, and Row leaves their bits clear", in either form:
-module _ {x : Sides} {l r : List ℕ} {c : ℕ} {hidden : Hidden} {before now : Lists} {a : CompareAnswer} (t : IsCompare x l r c hidden before a now) (bytes : Bytes l × Bytes r)
+module _ {x : Sides} {l r : List ℕ} {c : ℕ} {hidden : Hidden} {before now : Lists} {a : Result Compared Refused} (t : IsCompare x l r c hidden before a now) (bytes : Bytes l × Bytes r)
     (given : Accepts l r c hidden (length before.map) (length before.room) (length before.scratch)) where
   -- the place holds 65,535, and no other does;
   pub hidden_places : (i j : ℕ) → i < cells_of l → j < cells_of r
@@ -171,14 +166,14 @@ module _ {x : Sides} {l r : List ℕ} {c : ℕ} {hidden : Hidden} {before now : 
     place_is = (hidden_places i j o u).1 hides-one
 
     -- Pair says hidden there, with the sheet that Compare leaves and with every other that is accepted;
-    pub hidden_pair : (s : List ℕ) → sheet_refusal s ≡ 0 → pair_answer now.map (i * cells_of r + j) s ≡ pair.Hidden
+    pub hidden_pair : (s : List ℕ) → sheet_refusal s ≡ 0 → pair_answer now.map (i * cells_of r + j) s ≡ Ok pair.Hidden
     unfolding place_answer place_of
     hidden_pair s good =
         let inside : i * cells_of r + j < length now.map = rw (map_is t bytes given, map_places x hidden (books t bytes given)) (place_below (cells_of l) (cells_of r) i j o u) in
         pair_given now.map (i * cells_of r + j) s (record { good = good; inside = inside }) ∙ rw place_is
 
     -- Row gives row i, with bit j clear.
-    pub hidden-row : (row_answer now.map (cells_of r) i ≡ row.Row (row_word now.map (cells_of r) i) (row_count now.map (cells_of r) i))
+    pub hidden-row : (row_answer now.map (cells_of r) i ≡ Ok (row (row_word now.map (cells_of r) i) (row_count now.map (cells_of r) i)))
         × (bit (row_word now.map (cells_of r) i) j ≡ false)
     hidden-row =
         let sizes = book_sizes r given.right in
@@ -190,7 +185,7 @@ module _ {x : Sides} {l r : List ℕ} {c : ℕ} {hidden : Hidden} {before now : 
 -- "Suppose accepted books keep cell count, version and word, and differ only in recordings of hidden cells and links touching them. Then, all other arguments being
 -- equal, the map, sheet and answer of Compare and its one-way form come out byte for byte alike": two calls on such books, with the same lists lent, answer the
 -- same and leave the same, whether or not the answer is a refusal.
-module _ {x : Sides} {l l' r r' : List ℕ} {c : ℕ} {hidden : Hidden} {before now now' : Lists} {a a' : CompareAnswer}
+module _ {x : Sides} {l l' r r' : List ℕ} {c : ℕ} {hidden : Hidden} {before now now' : Lists} {a a' : Result Compared Refused}
     (t : IsCompare x l r c hidden before a now) (t' : IsCompare x l' r' c hidden before a' now') (left : (book_refusal l ≡ 0) × (book_refusal l' ≡ 0))
     (right : (book_refusal r ≡ 0) × (book_refusal r' ≡ 0)) where
   pub hidden_untold : SameSeen hidden.left l l' → SameSeen hidden.right r r' → (a ≡ a') × (now ≡ now')
@@ -199,27 +194,27 @@ module _ {x : Sides} {l l' r r' : List ℕ} {c : ℕ} {hidden : Hidden} {before 
       (t.answer ∙ same ∙ sym t'.answer, t.lists ∙ leaves ∙ sym t'.lists)
 
 -- "Truth's words for one sheet are alike too", and its answer;
-module _ (b b' : List ℕ) (h : ℕ) (s ws now now' : List ℕ) {a a' : TruthAnswer} (t : IsTruth b h s ws a now) (t' : IsTruth b' h s ws a' now')
+module _ (b b' : List ℕ) (h : ℕ) (s ws now now' : List ℕ) {a a' : Result (Unit {0}) Refused} (t : IsTruth b h s ws a now) (t' : IsTruth b' h s ws a' now')
     (accepted : (book_refusal b ≡ 0) × (book_refusal b' ≡ 0)) where
   pub hidden_untrue : SameSeen h b b' → (a ≡ a') × (now ≡ now')
   hidden_untrue d = truth_alike b b' h accepted.0 accepted.1 d s ws now now' a a' t t'
 
 -- and so are Claim's answer and words.
-module _ (l l' r r' : List ℕ) (hidden : Hidden) (s : List ℕ) (k i j : ℕ) (ws now now' : List ℕ) {a a' : ClaimAnswer} (t : IsClaim l r hidden s k i j ws a now)
+module _ (l l' r r' : List ℕ) (hidden : Hidden) (s : List ℕ) (k i j : ℕ) (ws now now' : List ℕ) {a a' : Result Bool Refused} (t : IsClaim l r hidden s k i j ws a now)
     (t' : IsClaim l' r' hidden s k i j ws a' now') (left : (book_refusal l ≡ 0) × (book_refusal l' ≡ 0)) (right : (book_refusal r ≡ 0) × (book_refusal r' ≡ 0)) where
   pub hidden_unclaimed : SameSeen hidden.left l l' → SameSeen hidden.right r r' → (a ≡ a') × (now ≡ now')
   hidden_unclaimed d e = claim_alike l l' r r' hidden left.0 left.1 right.0 right.1 d e s k i j ws now now' a a' t t'
 
 -- ---- what Truth leaves
 
-module _ (b : List ℕ) (h : ℕ) (s ws ws' : List ℕ) {a : TruthAnswer} (t : IsTruth b h s ws a ws') (book : book_refusal b ≡ 0) (word : hides_beyond h b ≡ false)
+module _ (b : List ℕ) (h : ℕ) (s ws ws' : List ℕ) {a : Result (Unit {0}) Refused} (t : IsTruth b h s ws a ws') (book : book_refusal b ≡ 0) (word : hides_beyond h b ≡ false)
     (sheet : sheet_refusal s ≡ 0) (words : count_of s ≤ length ws) where
-  is_done : truth_answer b h s (length ws) ≡ told.Done
+  is_done : truth_answer b h s (length ws) ≡ Ok tt
   unfolding truth_answer
   is_done = simp (eq-eqb (book_refusal b) 0 book, word, eq-eqb (sheet_refusal s) 0 sheet, le-ltb (length ws) (count_of s) words)
 
   -- For an accepted book and sheet, a word that hides cells of the book and as many words as entries Truth is done,
-  pub truth_answers : a ≡ told.Done
+  pub truth_answers : a ≡ Ok tt
   truth_answers = t.answer ∙ is_done
 
   -- and bit i of word k says whether there is a cell i that is not hidden and question k is true there. Demand 2: "Each question of a sheet is true exactly where source
@@ -235,14 +230,14 @@ module _ (b : List ℕ) (h : ℕ) (s ws ws' : List ℕ) {a : TruthAnswer} (t : I
 -- The functions for C are proved to promise the same, with the answer as one number (`IsCompareCode`, `IsTruthCode`, `IsClaimCode`). So all that stands above holds of
 -- what they leave and of the answer whose number they give:
 pub compare_in_c : (x : Sides) (l r : List ℕ) (c : ℕ) (hidden : Hidden) (before now : Lists) (v : ℕ) → IsCompareCode x l r c hidden before v now
-    → (a : CompareAnswer) × IsCompare x l r c hidden before a now × (v ≡ code (compare_outcome a))
+    → (a : Result Compared Refused) × IsCompare x l r c hidden before a now × (v ≡ code (compare_outcome a))
 compare_in_c x l r c hidden before now v t = (right_answer x l r c hidden before, record { answer = refl; lists = t.lists }, t.answer)
 
-pub truth_in_c : (b : List ℕ) (h : ℕ) (s ws now : List ℕ) (v : ℕ) → IsTruthCode b h s ws v now → (a : TruthAnswer) × IsTruth b h s ws a now × (v ≡ code (truth_outcome a))
+pub truth_in_c : (b : List ℕ) (h : ℕ) (s ws now : List ℕ) (v : ℕ) → IsTruthCode b h s ws v now → (a : Result (Unit {0}) Refused) × IsTruth b h s ws a now × (v ≡ code (truth_outcome a))
 truth_in_c b h s ws now v t = (truth_answer b h s (length ws), record { answer = refl; words = t.words }, t.answer)
 
 pub claim_in_c : (l r : List ℕ) (hidden : Hidden) (s : List ℕ) (k i j : ℕ) (ws now : List ℕ) (v : ℕ) → IsClaimCode l r hidden s k i j ws v now
-    → (a : ClaimAnswer) × IsClaim l r hidden s k i j ws a now × (v ≡ code (claim_outcome a))
+    → (a : Result Bool Refused) × IsClaim l r hidden s k i j ws a now × (v ≡ code (claim_outcome a))
 claim_in_c l r hidden s k i j ws now v t = (claim_answer l r hidden s k i j (length ws), record { answer = refl; words = t.words }, t.answer)
 
 -- What is hidden is not told by the numbers either.

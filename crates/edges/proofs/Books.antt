@@ -1,20 +1,18 @@
 -- What each turn and each way out of the functions that read a book shows of the definitions of `specs/`, as in `Laws`.
-use mathlib.Core.Bool.{Bool, true, false, So, not, cond}
+use mathlib.Core.Bool.{Bool, true, false, not, cond}
 use mathlib.Core.Path.{◌≡◌, refl, sym, ap, ap₂, ◌∙◌}
 use mathlib.Core.List.{List, [], ◌∷◌, ◌++◌, append-nil}
 use Prim.Native.Nat.{ℕ, zero, suc, ◌+◌, ◌^◌, ◌≤◌, ◌<◌}
 use native.Mathlib.Nat.{le_of_suc-le-suc}
 use native.Mathlib.Omega.{arith}
 use borrow.Author.Tests.{eq-eqb, ne_eqb}
-use lib.Bits.{bit_or}
-use lib.Dec.{eqb}
 use lib.ListN.{length, get_or, set, length-set}
 use lib.Seq.{get_or-set_same, get_or-set_other}
 use Rattle.theory.specs.Search.{list}
 use Rattle.theory.proofs.TestLaws.{list_ext}
 use Rattle.theory.specs.Graph.{same, Link, Inside}
 use Rattle.words.specs.Words.{word_of, IsMinus}
-use Rattle.words.specs.Laws.{bit-zero, word-in, word_out, word_of_ext, word_of_is}
+use Rattle.words.specs.Laws.{bit-zero, word_of_ext, word_of_is}
 use Rattle.book.specs.Book.{cells_of, links_of, link_at, book_refusal, as_link}
 use Rattle.book.specs.BookGraph.{passes, hides, clear, kept, seen_links, seen_recording, seen_of}
 use Rattle.book.specs.AcceptedLaws.{book_sizes, book_link}
@@ -25,17 +23,6 @@ use Rattle.edges.specs.BookEdges.{Loaded, recordings_to, recordings, same_in, pa
 use Rattle.edges.specs.Differing.{filled, differ_row, differing_to, differing}
 use Rattle.edges.specs.Laws.{rows_at, rows_none, rows_more}
 use Rattle.edges.specs.BookLaws.{passing-differing}
-
--- ---- what an accepted book has room for
-module _ (s : List ℕ) (r : book_refusal s ≡ 0) where
-  pub book_long : 8 ≤ length s
-  book_long = (book_sizes s r).long
-
-  pub links_few : (e : ℕ) → e ≡ links_of s → e ≤ 512
-  links_few e d = omega (arith, (book_sizes s r).most)
-
-  pub cells_few : (n : ℕ) → n ≡ cells_of s → n ≤ 64
-  cells_few n d = omega (arith, (book_sizes s r).few)
 
 -- ---- a link's cells
 pub none_hidden : (h : ℕ) (l : BookLink) → h ≡ 0 → true ≡ clear h (as_link l)
@@ -173,25 +160,7 @@ module _ (h : ℕ) (s : List ℕ) where
     pub list_all : (n : ℕ) → n ≡ cells_of s → n ≤ x → x ≤ n → list ≡ recordings h s
     list_all n d m l = let e : x ≡ cells_of s = omega arith in rw e at i
 
--- ---- the cells that are the same as a cell, one turn at a time
-module _ (rs : List ℕ) (x : ℕ) where
-  pub word_none : 0 ≡ same_in rs x 0
-  unfolding same_in word_of
-  word_none = refl
-
-  module _ (y : ℕ) (r : Bool) (d : r ≡ passes same (get_or rs x 0) (get_or rs y 0)) (out next : ℕ) (i : out ≡ same_in rs x y) where
-    pub word_more : So r → (joined : ℕ) → joined ≡ bit_or out (2 ^ y) → next ≡ joined → next ≡ same_in rs x (y + 1)
-    unfolding same_in
-    word_more e = word-in (λ y. passes same (get_or rs x 0) (get_or rs y 0)) y out next i (sym d ∙ e)
-
-    pub word_skip : r ≡ false → next ≡ out → next ≡ same_in rs x (y + 1)
-    unfolding same_in
-    word_skip e = word_out (λ y. passes same (get_or rs x 0) (get_or rs y 0)) y out next i (sym d ∙ e)
-
-  pub word_all : (y n out : ℕ) → n ≤ y → y ≤ n → out ≡ same_in rs x y → out ≡ same_in rs x n
-  word_all y n out m l i = let e : y ≡ n = omega arith in rw e at i
-
--- ---- their rows
+-- ---- the rows of the cells that are the same
 module _ (h : ℕ) (s : List ℕ) where
   pub rows_start : (rows : List ℕ) → rows ≡ empty_rows 64 → rows ≡ passing_rows h s same 0
   unfolding passing_rows
@@ -213,24 +182,6 @@ module _ (h : ℕ) (s : List ℕ) where
 
     pub rows_all : n ≤ x → x ≤ n → rows ≡ passing h s same
     rows_all m l = let e : x ≡ cells_of s = omega arith in rw e at i
-
--- ---- the rows that are not empty, one turn at a time
-module _ (rows : List ℕ) where
-  pub row_none : 0 ≡ filled rows 0
-  unfolding filled word_of
-  row_none = refl
-
-  module _ (x out next : ℕ) (i : out ≡ filled rows x) where
-    pub row_in : (get_or rows x 0 ≡ 0 → ⊥) → (joined : ℕ) → joined ≡ bit_or out (2 ^ x) → next ≡ joined → next ≡ filled rows (x + 1)
-    unfolding filled
-    row_in f = word-in (λ x. not (eqb (get_or rows x 0) 0)) x out next i (rw (ne_eqb (get_or rows x 0) 0 f))
-
-    pub row_out : get_or rows x 0 ≡ 0 → next ≡ out → next ≡ filled rows (x + 1)
-    unfolding filled
-    row_out z = word_out (λ x. not (eqb (get_or rows x 0) 0)) x out next i (rw (eq-eqb (get_or rows x 0) 0 z))
-
-  pub row_all : (x n out : ℕ) → n ≤ x → x ≤ n → out ≡ filled rows x → out ≡ filled rows n
-  row_all x n out m l i = let e : x ≡ n = omega arith in rw e at i
 
 -- ---- the rows of what differs
 module _ (heard row : ℕ) where

@@ -11,8 +11,6 @@ use lib.Bits.{bit_and, bit_or, bit_xor, and_mask, or_zero_r, or_add_and, and_le_
 use lib.Dec.{eqb, lit<}
 use lib.ListN.{length, get_or, set, length-set, length-replicate}
 use lib.Pow.{pow-lt}
-use mir.Syntax.{w64}
-use mir.Val.{Fits}
 use Rattle.theory.specs.Search.{list}
 use Rattle.theory.proofs.TestLaws.{list_ext}
 use Rattle.theory.specs.Graph.{Link}
@@ -32,20 +30,10 @@ moved_is w i j l = rw (and_mask (w / 2 ^ i) 1) (go (w / 2 ^ i % 2) (mod-lt (w / 
     go (suc zero) h = rw one-mul (mod-eq_of_lt (pow-lt l))
     go (suc (suc x)) h = absurd (omega arith)
 
--- ---- a node as an index
-pub low_fits : (x : ℕ) → x < 64 → Fits w64 x
-low_fits x h = record { fits = omega arith }
-
-pub low_scaled : (x : ℕ) → x < 64 → Fits w64 (x * 8)
-low_scaled x h = record { fits = omega arith }
-
--- ---- a link's nodes
+-- ---- a link's node
 module _ (count : ℕ) (fs ts : List ℕ) (d : Held count fs ts) (k until : ℕ) (h : k < until) (m : until ≤ count) where
-  pub from_below : get_or fs k 0 < 64
+  from_below : get_or fs k 0 < 64
   from_below = d.from_low k (omega arith)
-
-  pub to_below : get_or ts k 0 < 64
-  to_below = d.to_low k (omega arith)
 
 -- ---- the links that a loop has still to visit
 unfoldable pub rest : ℕ → List ℕ → List ℕ → List ℕ → ℕ → List Link

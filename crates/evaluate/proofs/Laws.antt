@@ -5,10 +5,10 @@ use mathlib.Core.List.{List, [], ◌∷◌, append-nil}
 use Prim.Native.Nat.{ℕ, zero, suc, ◌+◌, ◌-◌, ◌^◌, ◌≤◌, ◌<◌}
 use native.Mathlib.Nat.{sub-zero}
 use native.Mathlib.Omega.{arith}
-use borrow.Author.Tests.{lt-ltb, le-ltb, eqb-true, ne_eqb, not-false, not-true}
+use borrow.Author.Tests.{eqb-true, not-false, not-true}
 use lib.Bits.{bit_and, bit_or, bit_xor, or_lt}
 use lib.Dec.{eqb, ltb}
-use lib.ListN.{length, get_or, set, drop, length-set, drop_of_length-le}
+use lib.ListN.{length, get_or, set, drop, drop_of_length-le}
 use lib.Pow.{pow_pos, pow-lt}
 use Rattle.theory.specs.Search.{list}
 use Rattle.theory.specs.Graph.{same, differ, Link}
@@ -20,56 +20,14 @@ use Rattle.sheet.proofs.AcceptedLaws.{entry_start-zero}
 use Rattle.sheet.specs.Reading.{Reads, steps_of}
 use Rattle.sheet.proofs.KnownLaws.{none_left, all_left, next-step}
 use Rattle.sheet.specs.declared.Steps.{Steps}
-use Rattle.edges.specs.Edges.{edges, image, Gathered, any_passes}
+use Rattle.edges.specs.Edges.{image, Gathered, any_passes}
 use Rattle.edges.specs.Laws.{empty_at, gather_empty, passes_none, passes_no_second}
-use Rattle.evaluate.specs.Evaluation.{Tables, tables, forward, backward, plain_word, way_word, end_rows, Ended, comparison_word, pair_word, entry_word, evaluated_from, evaluated}
+use Rattle.evaluate.specs.Evaluation.{Tables, forward, backward, plain_word, way_word, end_rows, Ended, comparison_word, pair_word, entry_word, evaluated_from, evaluated}
 use Rattle.evaluate.specs.WritingLaws.{over, over-next}
 
 -- ---- the words that numbers and tests name
 pub read_at : (ws : List ℕ) (k j : ℕ) → k ≡ j → get_or ws k 0 ≡ get_or ws j 0
 read_at ws k j e = ap (λ i. get_or ws i 0) e
-
--- ---- true, not, and, or
--- what a kind below 4 makes of all nodes and the words that its numbers name
-plain_by_lem : ℕ → ℕ → ℕ → ℕ → ℕ
-plain_by_lem kind every a b = cond (eqb kind 0) every (cond (eqb kind 1) (bit_xor every a) (cond (eqb kind 2) (bit_and a b) (bit_or a b)))
-
-plain_by : (every : ℕ) (ws : List ℕ) (e : Entry) → kind_of e < 4
-    → plain_word every ws e ≡ plain_by_lem (kind_of e) every (get_or ws (get_or (numbers e) 0 0) 0) (get_or ws (get_or (numbers e) 1 0) 0)
-unfolding plain_word kind_of numbers plain_by_lem
-plain_by every ws truth l = refl
-plain_by every ws (negation i) l = refl
-plain_by every ws (conjunction i j) l = refl
-plain_by every ws (disjunction i j) l = refl
-plain_by every ws (way ss) l = absurd (omega arith)
-plain_by every ws (comparison same ss ss') l = absurd (omega arith)
-plain_by every ws (comparison differ ss ss') l = absurd (omega arith)
-
--- the word that number i of the entry names
-abbrev numbered : List ℕ → List ℕ → ℕ → ℕ → ℕ
-numbered ws s at i = get_or ws (get_or (numbers (entry_at s at)) i 0) 0
-
-module _ (every : ℕ) (ws s : List ℕ) (at kind : ℕ) (l : kind_of (entry_at s at) < 4) (d : kind ≡ kind_of (entry_at s at)) where
-  plain : (k : ℕ) → kind ≡ k → plain_word every ws (entry_at s at) ≡ plain_by_lem k every (numbered ws s at 0) (numbered ws s at 1)
-  plain k e = rw (← e, d) (plain_by every ws (entry_at s at) l)
-
-  pub plain_true : kind ≡ 0 → every ≡ plain_word every ws (entry_at s at)
-  unfolding plain_by_lem
-  plain_true k = sym (plain 0 k)
-
-  module _ (a : ℕ) (x : a ≡ numbered ws s at 0) where
-    pub plain_not : kind ≡ 1 → bit_xor every a ≡ plain_word every ws (entry_at s at)
-    unfolding plain_by_lem
-    plain_not k = rw x (sym (plain 1 k))
-
-    module _ (b : ℕ) (y : b ≡ numbered ws s at 1) (r : ℕ) where
-      pub plain_and : kind ≡ 2 → r ≡ bit_and a b → r ≡ plain_word every ws (entry_at s at)
-      unfolding plain_by_lem
-      plain_and k z = z ∙ rw (x, y) (sym (plain 2 k))
-
-      pub plain_or : (kind ≡ 0 → ⊥) → (kind ≡ 1 → ⊥) → (kind ≡ 2 → ⊥) → r ≡ bit_or a b → r ≡ plain_word every ws (entry_at s at)
-      unfolding plain_by_lem
-      plain_or f g h z = z ∙ rw (x, y) (sym (plain kind refl ∙ rw (ne_eqb kind 0 f, ne_eqb kind 1 g, ne_eqb kind 2 h)))
 
 -- ---- ways, from the last step to the first
 -- where the later steps end nowhere, so do all
@@ -102,9 +60,6 @@ module _ (s : List ℕ) (w : Steps) (ks : List Link) (ws : List ℕ) where
   pub way_start : (every : ℕ) → every ≡ way_word every ks ws (drop w.count (steps_of s w))
   unfolding way_word
   way_start every = rw (none_left s w)
-
-  pub way_end : (every out left : ℕ) → left ≤ 0 → out ≡ way_word every ks ws (drop left (steps_of s w)) → out ≡ way_word every ks ws (steps_of s w)
-  way_end every out left h i = i ∙ rw (all_left (steps_of s w) left h)
 
   pub rows_start : (rows : List ℕ) → rows ≡ list 64 (λ x. 2 ^ x) → rows ≡ end_rows ks ws (drop w.count (steps_of s w))
   unfolding end_rows
@@ -208,15 +163,22 @@ pub pair_returned : (every r : ℕ) (rows : List ℕ) (ks : List Link) (ws s : L
 pair_returned every r rows ks ws s p p' w w' ss ss' x y firsts seconds a b d t e u f =
     f ∙ rw (d.is (not-false x t), e.is (not-false y u), a.steps, b.steps)
 
--- ---- the word of an entry, by its kind
+-- ---- the word of an entry, by the number of its kind
+-- below 4, of all nodes and the words that its numbers name
+plain_by_lem : ℕ → ℕ → ℕ → ℕ → ℕ
+plain_by_lem kind every a b = cond (eqb kind 0) every (cond (eqb kind 1) (bit_xor every a) (cond (eqb kind 2) (bit_and a b) (bit_or a b)))
+
+-- from 4 on, of its ways
 ways_by : ℕ → Tables → List ℕ → List Step → List Step → ℕ
 ways_by kind t ws ss ss' =
     cond (eqb kind 4) (way_word t.every (backward t) ws ss)
     (comparison_word t.every (cond (eqb kind 5) t.sames t.differs) (end_rows (forward t) ws ss) (end_rows (forward t) ws ss'))
 
 entry_by : (t : Tables) (ws : List ℕ) (e : Entry)
-    → entry_word t ws e ≡ cond (ltb (kind_of e) 4) (plain_word t.every ws e) (ways_by (kind_of e) t ws (first_way_lem e) (second_way e))
-unfolding entry_word kind_of first_way_lem second_way ways_by
+    → entry_word t ws e
+    ≡ cond (ltb (kind_of e) 4) (plain_by_lem (kind_of e) t.every (get_or ws (get_or (numbers e) 0 0) 0) (get_or ws (get_or (numbers e) 1 0) 0))
+    (ways_by (kind_of e) t ws (first_way_lem e) (second_way e))
+unfolding entry_word plain_word kind_of numbers first_way_lem second_way plain_by_lem ways_by
 entry_by t ws truth = refl
 entry_by t ws (negation i) = refl
 entry_by t ws (conjunction i j) = refl
@@ -225,29 +187,46 @@ entry_by t ws (way ss) = refl
 entry_by t ws (comparison same ss ss') = refl
 entry_by t ws (comparison differ ss ss') = refl
 
-module _ (every count : ℕ) (fs ls ts sames differs ws s : List ℕ) (at kind r : ℕ) (d : kind ≡ kind_of (entry_at s at)) where
-  -- its tables
-  t : Tables
-  t = tables every count fs ls ts sames differs
+module _ (t : Tables) (ws s : List ℕ) (at : ℕ) where
+  -- the word that number i of the entry names
+  abbrev numbered : ℕ → ℕ
+  numbered i = get_or ws (get_or (numbers (entry_at s at)) i 0) 0
 
-  by-kind : (k : ℕ) → kind ≡ k → entry_word t ws (entry_at s at)
-      ≡ cond (ltb k 4) (plain_word every ws (entry_at s at)) (ways_by k t ws (first_way_lem (entry_at s at)) (second_way (entry_at s at)))
-  unfolding t
-  by-kind k e = rw (← e, d) (entry_by (tables every count fs ls ts sames differs) ws (entry_at s at))
+  by-kind : (k : ℕ) → k ≡ kind_of (entry_at s at) → entry_word t ws (entry_at s at)
+      ≡ cond (ltb k 4) (plain_by_lem k t.every (numbered 0) (numbered 1)) (ways_by k t ws (first_way_lem (entry_at s at)) (second_way (entry_at s at)))
+  by-kind k d = rw d (entry_by t ws (entry_at s at))
 
-  pub entry_way : (p w : Steps) → kind ≡ 4 → Reads s p (first_way_lem (entry_at s at)) w → r ≡ way_word every (edges count ts ls fs) ws (steps_of s w)
-      → r ≡ entry_word (tables every count fs ls ts sames differs) ws (entry_at s at)
-  unfolding t ways_by
-  entry_way p w k a e = e ∙ rw a.steps (sym (by-kind 4 k))
+  pub entry_true : 0 ≡ kind_of (entry_at s at) → t.every ≡ entry_word t ws (entry_at s at)
+  unfolding plain_by_lem
+  entry_true d = sym (by-kind 0 d)
 
-  pub entry_same : kind ≡ 5 → r ≡ pair_word every sames (edges count fs ls ts) ws (entry_at s at) → r ≡ entry_word (tables every count fs ls ts sames differs) ws (entry_at s at)
-  unfolding t ways_by
-  entry_same k e = e ∙ sym (by-kind 5 k)
+  module _ (a : ℕ) (x : a ≡ numbered 0) where
+    pub entry_not : 1 ≡ kind_of (entry_at s at) → bit_xor t.every a ≡ entry_word t ws (entry_at s at)
+    unfolding plain_by_lem
+    entry_not d = rw x (sym (by-kind 1 d))
 
-  pub entry_differ : 4 ≤ kind_of (entry_at s at) → (kind ≡ 4 → ⊥) → (kind ≡ 5 → ⊥) → r ≡ pair_word every differs (edges count fs ls ts) ws (entry_at s at)
-      → r ≡ entry_word (tables every count fs ls ts sames differs) ws (entry_at s at)
-  unfolding t ways_by
-  entry_differ h g k e = e ∙ sym (by-kind kind refl ∙ rw (le-ltb kind 4 (omega arith), ne_eqb kind 4 g, ne_eqb kind 5 k))
+    module _ (b : ℕ) (y : b ≡ numbered 1) (r : ℕ) where
+      pub entry_and : 2 ≡ kind_of (entry_at s at) → r ≡ bit_and a b → r ≡ entry_word t ws (entry_at s at)
+      unfolding plain_by_lem
+      entry_and d z = z ∙ rw (x, y) (sym (by-kind 2 d))
+
+      pub entry_or : 3 ≡ kind_of (entry_at s at) → r ≡ bit_or a b → r ≡ entry_word t ws (entry_at s at)
+      unfolding plain_by_lem
+      entry_or d z = z ∙ rw (x, y) (sym (by-kind 3 d))
+
+  module _ (r : ℕ) where
+    pub entry_way : 4 ≡ kind_of (entry_at s at) → (p w : Steps) → Reads s p (first_way_lem (entry_at s at)) w → r ≡ way_word t.every (backward t) ws (steps_of s w)
+        → r ≡ entry_word t ws (entry_at s at)
+    unfolding ways_by
+    entry_way d p w a e = e ∙ rw a.steps (sym (by-kind 4 d))
+
+    pub entry_same : 5 ≡ kind_of (entry_at s at) → r ≡ pair_word t.every t.sames (forward t) ws (entry_at s at) → r ≡ entry_word t ws (entry_at s at)
+    unfolding ways_by
+    entry_same d e = e ∙ sym (by-kind 5 d)
+
+    pub entry_differ : 6 ≡ kind_of (entry_at s at) → r ≡ pair_word t.every t.differs (forward t) ws (entry_at s at) → r ≡ entry_word t ws (entry_at s at)
+    unfolding ways_by
+    entry_differ d e = e ∙ sym (by-kind 6 d)
 
 -- ---- entry by entry
 module _ (t : Tables) (s : List ℕ) (upto : ℕ) where
@@ -260,14 +239,6 @@ module _ (t : Tables) (s : List ℕ) (upto : ℕ) where
       unfolding evaluated_from
       evaluate_next d =
           rw (w, d, e) (rw (let q : upto - k ≡ suc (upto - (k + 1)) = omega arith in q) at i)
-
-      pub evaluate_plain : (kind : ℕ) → kind ≡ kind_of (entry_at s at) → kind < 4 → v ≡ plain_word t.every ws (entry_at s at)
-          → evaluated_from t s (k + 1) next (upto - (k + 1)) ws' ≡ end
-      evaluate_plain kind c l d = evaluate_next (d ∙ sym (entry_by t ws (entry_at s at) ∙ rw (← c, lt-ltb kind 4 l)))
-
-    -- the words are as many as they were
-    pub evaluate_long : (m : ℕ) → length ws ≡ m → (v : ℕ) (ws' : List ℕ) → ws' ≡ set ws k v → length ws' ≡ m
-    evaluate_long m l v ws' e = rw e (length-set ws k v ∙ l)
 
     pub evaluate_end : upto ≤ k → ws ≡ end
     unfolding evaluated_from

@@ -7,11 +7,12 @@ ghost use Rattle.sheet.specs.Entry.{kind_of, step_in, numbers};
 ghost use Rattle.sheet.specs.Sheet.{entry_at};
 ghost use Rattle.sheet.specs.Reading.{steps_of, HasNumber};
 ghost use Rattle.sheet.specs.Known.{WayKnown, EntryKnown, EntriesFit};
-ghost use Rattle.edges.specs.Edges.{edges, Held};
-ghost use Rattle.edges.specs.Groups.{total, Grouped};
-ghost use Rattle.evaluate.specs.Evaluation.{tables, plain_word, way_word, Ended, comparison_word, pair_word, entry_word, evaluated};
+ghost use Rattle.edges.specs.LinkTables.{forward, backward};
+ghost use Rattle.evaluate.specs.Evaluation.{way_word, Ended, comparison_word, pair_word, entry_word, evaluated};
+ghost use Rattle.evaluate.specs.GivenTables.{tables_of};
 
-use sheet::Question;
+use edges::{Links, Rows};
+use sheet::{Kind, Question, Sheet, Steps};
 
 // The word of the entry that number i of the not, and or or at `at` names.
 fn named_word(sheet: &[u8], at: usize, i: usize, known: &[u64]) -> u64
@@ -23,7 +24,7 @@ fn named_word(sheet: &[u8], at: usize, i: usize, known: &[u64]) -> u64
 }
 
 // The word of the entry that the test of step i of a way names.
-fn tested_word(sheet: &[u8], way: sheet::Steps, i: usize, known: &[u64]) -> u64
+fn tested_word(sheet: &[u8], way: Steps, i: usize, known: &[u64]) -> u64
     requires { (i < way.count) × WayKnown sheet.now way (length known.now) }
     ensures { result ≡ get_or known.now (step_in (steps_of sheet.now way) i).test 0 }
 {
@@ -31,47 +32,16 @@ fn tested_word(sheet: &[u8], way: sheet::Steps, i: usize, known: &[u64]) -> u64
     known[k]
 }
 
-// The word of the true, not, and or or at `at`.
-fn plain_word(every: u64, sheet: &[u8], at: usize, known: &[u64]) -> u64
-    requires { EntryKnown sheet.now at (length known.now) × (kind_of (entry_at sheet.now at) < 4) }
-    ensures { result ≡ plain_word every known.now (entry_at sheet.now at) }
-{
-    let kind = sheet::kind(sheet, at);
-    if kind == sheet::KIND_TRUE {
-        return every;
-    }
-    let a = named_word(sheet, at, 0, known);
-    if kind == sheet::KIND_NOT {
-        return every ^ a;
-    }
-    let b = named_word(sheet, at, 1, known);
-    if kind == sheet::KIND_AND {
-        return words::meet(a, b);
-    }
-    words::union(a, b)
-}
-
 // The nodes with a way of the steps, from the last step to the first over one word.
-fn way_word(
-    every: u64,
-    starts: &[u16; 66],
-    from: &[u8; 512],
-    labels: &[u16; 512],
-    to: &[u8; 512],
-    sheet: &[u8],
-    way: sheet::Steps,
-    known: &[u64],
-) -> u64
-    requires { Held (total starts.now) from.now to.now × Grouped starts.now labels.now × WayKnown sheet.now way (length known.now) }
-    ensures { result ≡ way_word every (edges (total starts.now) to.now labels.now from.now) known.now (steps_of sheet.now way) }
+fn way_word(every: u64, links: &Links, sheet: &[u8], way: Steps, known: &[u64]) -> u64
+    requires { WayKnown sheet.now way (length known.now) }
+    ensures { result ≡ way_word every (backward links.now) known.now (steps_of sheet.now way) }
 {
     let mut out = every;
-    let mut left = way.count;
-    while 0 < left {
-        left -= 1;
-        let label = sheet::label(sheet, way, left);
-        let tested = tested_word(sheet, way, left, known);
-        out = edges::image(starts, to, labels, from, label, words::meet(tested, out));
+    for i in (0..way.count).rev() {
+        let label = sheet::label(sheet, way, i);
+        let tested = tested_word(sheet, way, i, known);
+        out = edges::image(links, label, words::meet(tested, out));
     }
     out
 }
@@ -81,35 +51,22 @@ fn singles(rows: &mut [u64; 64])
     requires { length rows.old ≡ 64 }
     ensures { rows.new ≡ list 64 (λ x. 2 ^ x) }
 {
-    let mut x: u8 = 0;
-    while x < 64 {
-        rows[x as usize] = words::only(x);
-        x += 1;
+    for x in 0..64 {
+        rows[x] = words::only(x as u8);
     }
 }
 
 // Writes for each node the ends of the ways of the steps from it, from the last step to the first for all nodes together. The answer is false where it was
 // left off because no way has an end.
-fn end_rows(
-    starts: &[u16; 66],
-    from: &[u8; 512],
-    labels: &[u16; 512],
-    to: &[u8; 512],
-    sheet: &[u8],
-    way: sheet::Steps,
-    known: &[u64],
-    rows: &mut [u64; 64],
-) -> bool
-    requires { Held (total starts.now) from.now to.now × Grouped starts.now labels.now × WayKnown sheet.now way (length known.now) × (length rows.old ≡ 64) }
-    ensures { Ended (edges (total starts.now) from.now labels.now to.now) known.now (steps_of sheet.now way) result rows.new }
+fn end_rows(links: &Links, sheet: &[u8], way: Steps, known: &[u64], rows: &mut [u64; 64]) -> bool
+    requires { WayKnown sheet.now way (length known.now) × (length rows.old ≡ 64) }
+    ensures { Ended (forward links.now) known.now (steps_of sheet.now way) result rows.new }
 {
     singles(rows);
-    let mut left = way.count;
-    while 0 < left {
-        left -= 1;
-        let label = sheet::label(sheet, way, left);
-        let tested = tested_word(sheet, way, left, known);
-        if !edges::gather(starts, from, labels, to, label, tested, rows) {
+    for i in (0..way.count).rev() {
+        let label = sheet::label(sheet, way, i);
+        let tested = tested_word(sheet, way, i, known);
+        if !edges::gather(links, label, tested, rows) {
             return false;
         }
     }
@@ -136,85 +93,70 @@ fn comparison_word(every: u64, rows: &[u64; 64], firsts: &[u64; 64], seconds: &[
 // The word of the same or differ at `at`, from the rows of that comparison.
 fn pair_word(
     every: u64,
-    starts: &[u16; 66],
-    from: &[u8; 512],
-    labels: &[u16; 512],
-    to: &[u8; 512],
+    links: &Links,
     rows: &[u64; 64],
     sheet: &[u8],
     at: usize,
     known: &[u64],
 ) -> u64
-    requires { Held (total starts.now) from.now to.now × Grouped starts.now labels.now × EntryKnown sheet.now at (length known.now) × (5 ≤ kind_of (entry_at sheet.now at)) }
-    ensures { result ≡ pair_word every rows.now (edges (total starts.now) from.now labels.now to.now) known.now (entry_at sheet.now at) }
+    requires { EntryKnown sheet.now at (length known.now) × (5 ≤ kind_of (entry_at sheet.now at)) }
+    ensures { result ≡ pair_word every rows.now (forward links.now) known.now (entry_at sheet.now at) }
 {
     let first = sheet::first_way(sheet, at);
     let second = sheet::second_way(sheet, at);
     let mut firsts = [0u64; 64];
-    if !end_rows(starts, from, labels, to, sheet, first, known, &mut firsts) {
+    if !end_rows(links, sheet, first, known, &mut firsts) {
         return 0;
     }
     let mut seconds = [0u64; 64];
-    if !end_rows(starts, from, labels, to, sheet, second, known, &mut seconds) {
+    if !end_rows(links, sheet, second, known, &mut seconds) {
         return 0;
     }
     comparison_word(every, rows, &firsts, &seconds)
 }
 
-// The word of the way, same or differ at `at`, from the words of the entries before it.
-fn path_word(
-    every: u64,
-    starts: &[u16; 66],
-    from: &[u8; 512],
-    labels: &[u16; 512],
-    to: &[u8; 512],
-    same: &[u64; 64],
-    differ: &[u64; 64],
-    sheet: &[u8],
-    at: usize,
-    known: &[u64],
-) -> u64
-    requires { Held (total starts.now) from.now to.now × Grouped starts.now labels.now × EntryKnown sheet.now at (length known.now) × (4 ≤ kind_of (entry_at sheet.now at)) }
-    ensures { result ≡ entry_word (tables every (total starts.now) from.now labels.now to.now same.now differ.now) known.now (entry_at sheet.now at) }
+// The word of the entry at `at`, from the words of the entries before it.
+fn entry_word(every: u64, links: &Links, rows: &Rows, sheet: &[u8], at: usize, known: &[u64]) -> u64
+    requires { EntryKnown sheet.now at (length known.now) }
+    ensures { result ≡ entry_word (tables_of every links.now rows.now) known.now (entry_at sheet.now at) }
 {
-    let kind = sheet::kind(sheet, at);
-    if kind == sheet::KIND_WAY {
-        let way = sheet::first_way(sheet, at);
-        return way_word(every, starts, from, labels, to, sheet, way, known);
+    match sheet::kind(sheet, at) {
+        Kind::True => every,
+        Kind::Not => every ^ named_word(sheet, at, 0, known),
+        Kind::And => {
+            let a = named_word(sheet, at, 0, known);
+            let b = named_word(sheet, at, 1, known);
+            words::meet(a, b)
+        }
+        Kind::Or => {
+            let a = named_word(sheet, at, 0, known);
+            let b = named_word(sheet, at, 1, known);
+            words::union(a, b)
+        }
+        Kind::Way => {
+            let way = sheet::first_way(sheet, at);
+            way_word(every, links, sheet, way, known)
+        }
+        Kind::Same => pair_word(every, links, &rows.same, sheet, at, known),
+        Kind::Differ => pair_word(every, links, &rows.differ, sheet, at, known),
     }
-    if kind == sheet::KIND_SAME {
-        return pair_word(every, starts, from, labels, to, same, sheet, at, known);
-    }
-    pair_word(every, starts, from, labels, to, differ, sheet, at, known)
 }
 
-// Writes the words of the first `upto` entries of an accepted sheet, from the front, over the nodes of `every`.
+// Writes the words of the first `upto` entries of a sheet, from the front, over the nodes of `every`.
 pub fn evaluate(
     every: u64,
-    starts: &[u16; 66],
-    from: &[u8; 512],
-    labels: &[u16; 512],
-    to: &[u8; 512],
-    same: &[u64; 64],
-    differ: &[u64; 64],
-    sheet: &[u8],
+    links: &Links,
+    rows: &Rows,
+    sheet: Sheet<'_>,
     upto: usize,
     known: &mut [u64],
 )
-    requires { Held (total starts.now) from.now to.now × Grouped starts.now labels.now × EntriesFit sheet.now upto (length known.old) }
-    ensures { known.new ≡ evaluated (tables every (total starts.now) from.now labels.now to.now same.now differ.now) sheet.now upto known.old }
+    requires { EntriesFit sheet.bytes.now upto (length known.old) }
+    ensures { known.new ≡ evaluated (tables_of every links.now rows.now) sheet.entry.bytes.now upto known.old }
 {
-    let mut at = sheet::entry_start(sheet, Question(0));
-    let mut k = 0;
-    while k < upto {
-        if sheet::kind(sheet, at) < sheet::KIND_WAY {
-            known[k] = plain_word(every, sheet, at, known);
-        } else {
-            known[k] = path_word(
-                every, starts, from, labels, to, same, differ, sheet, at, known,
-            );
-        }
-        at = sheet::next_start(sheet, at);
-        k += 1;
+    let mut at = sheet.entry_start(Question(0));
+    for k in 0..upto {
+        known[k] = entry_word(every, links, rows, sheet.bytes, at, known);
+        at = sheet::next_start(sheet.bytes, at);
     }
 }

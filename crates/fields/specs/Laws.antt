@@ -29,6 +29,11 @@ field-drop w n s at = field_ext w (drop n s) s at (n + at) (λ i l. get_or-drop 
 pub field-take : (w n : ℕ) (s : List ℕ) (at : ℕ) → at + w ≤ n → field w (take n s) at ≡ field w s at
 field-take w n s at h = field_ext w (take n s) s at at (λ i l. get_or-take n s (at + i) 0 (omega arith))
 
+-- the field of one byte is the byte
+pub byte : (s : List ℕ) (at : ℕ) → get_or s at 0 ≡ field 1 s at
+unfolding field
+byte s at = omega arith
+
 -- ---- two fields side by side are one
 pub field-add : (v w : ℕ) (s : List ℕ) (at : ℕ) → field (v + w) s at ≡ field v s at * 256 ^ w + field w s (at + v)
 unfolding field

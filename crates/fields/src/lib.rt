@@ -5,71 +5,30 @@ ghost use Rattle.std.specs.Prelude.{◌≡◌, ◌+◌, ◌^◌, ◌≤◌, ◌<
 ghost use Rattle.fields.specs.Fields.{field, with_field};
 ghost use Rattle.fields.specs.Label.{label_width};
 
-// The field of one byte at `at`.
-pub fn get1(s: &[u8], at: usize) -> u8
-    requires { at + 1 ≤ length s.now }
-    ensures { result ≡ field 1 s.now at }
+// The field of N bytes at `at`.
+pub fn get<const N: usize>(s: &[u8], at: usize) -> u32
+    requires { (N ≤ 4) × (at + N ≤ length s.now) }
+    ensures { (result ≡ field N s.now at) × (result < 256 ^ N) }
 {
-    s[at]
+    let mut v: u32 = 0;
+    for i in 0..N {
+        v = v * 256 + (s[at + i] as u32);
+    }
+    v
 }
 
-// The field of two bytes at `at`.
-pub fn get2(s: &[u8], at: usize) -> u16
-    requires { at + 2 ≤ length s.now }
-    ensures { result ≡ field 2 s.now at }
+// Writes v as the field of N bytes at `at`.
+pub fn put<const N: usize>(s: &mut [u8], at: usize, v: u32)
+    requires { (N ≤ 4) × (at + N ≤ length s.old) }
+    ensures { s.new ≡ with_field N s.old at v }
 {
-    let high = get1(s, at);
-    let low = get1(s, at + 1);
-    (high as u16) * 256 + (low as u16)
-}
-
-// The field of three bytes at `at`.
-pub fn get3(s: &[u8], at: usize) -> u32
-    requires { at + 3 ≤ length s.now }
-    ensures { (result ≡ field 3 s.now at) × (result < 256 ^ 3) }
-{
-    let high = get2(s, at);
-    let low = get1(s, at + 2);
-    (high as u32) * 256 + (low as u32)
-}
-
-// The field of four bytes at `at`.
-pub fn get4(s: &[u8], at: usize) -> u32
-    requires { at + 4 ≤ length s.now }
-    ensures { result ≡ field 4 s.now at }
-{
-    let high = get2(s, at);
-    let low = get2(s, at + 2);
-    (high as u32) * 65536 + (low as u32)
-}
-
-// Writes v as the field of one byte at `at`.
-pub fn put1(s: &mut [u8], at: usize, v: u8)
-    requires { at + 1 ≤ length s.old }
-    ensures { s.new ≡ with_field 1 s.old at v }
-{
-    s[at] = v;
-}
-
-// Writes v as the field of two bytes at `at`.
-pub fn put2(s: &mut [u8], at: usize, v: u16)
-    requires { at + 2 ≤ length s.old }
-    ensures { s.new ≡ with_field 2 s.old at v }
-{
-    put1(s, at, (v / 256 % 256) as u8);
-    put1(s, at + 1, (v % 256) as u8);
-}
-
-// Writes v as the field of four bytes at `at`.
-pub fn put4(s: &mut [u8], at: usize, v: u32)
-    requires { at + 4 ≤ length s.old }
-    ensures { s.new ≡ with_field 4 s.old at v }
-{
-    put2(s, at, (v / 65536 % 65536) as u16);
-    put2(s, at + 2, (v % 65536) as u16);
+    for i in 0..N {
+        s[at + i] = ((v >> (8 * (N - 1 - i))) % 256) as u8;
+    }
 }
 
 // How many bytes a label takes in a book or sheet of a version.
+// Stays: a version is any byte, as the book or sheet has it, and no enum: `label_width` promises the width at each.
 pub fn label_width(version: u8) -> usize
     ensures { (result ≡ label_width version) × (1 ≤ result) × (result ≤ 2) }
 {
@@ -85,9 +44,9 @@ pub fn get_label(s: &[u8], at: usize, version: u8) -> u16
     ensures { result ≡ field (label_width version) s.now at }
 {
     if version == 1 {
-        return get1(s, at) as u16;
+        return s[at] as u16;
     }
-    get2(s, at)
+    get::<2>(s, at) as u16
 }
 
 // Writes a label at `at` in a sheet of a version.
@@ -96,8 +55,8 @@ pub fn put_label(s: &mut [u8], at: usize, version: u8, label: u16)
     ensures { s.new ≡ with_field (label_width version) s.old at label }
 {
     if version == 1 {
-        put1(s, at, label as u8);
+        put::<1>(s, at, label as u32);
     } else {
-        put2(s, at, label);
+        put::<2>(s, at, label as u32);
     }
 }

@@ -10,6 +10,7 @@ fn read_full<T: Read>(input: &mut T, room: &mut [u8]) -> io::Result<usize>
     ensures { IfOk result (λ n. n ≤ length room.new) }
 {
     let mut done = 0;
+    // Stays: it goes on by what was read, and counts no index.
     while done < room.len() {
         let n = input.read(&mut room[done..])?;
         if n == 0 {

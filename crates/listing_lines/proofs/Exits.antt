@@ -1,7 +1,7 @@
 -- What the writers of lines leave.
 use mathlib.Core.Bool.{not}
 use mathlib.Core.List.{List, ◌++◌, append-nil}
-use mathlib.Core.Path.{◌≡◌, refl, sym, ◌∙◌}
+use mathlib.Core.Path.{◌≡◌, refl, sym}
 use Prim.Native.Nat.{ℕ, suc, ◌+◌, ◌-◌, ◌*◌, ◌≤◌, ◌<◌}
 use native.Mathlib.Nat.{suc-mul, mul-le-mul_right}
 use native.Mathlib.Numerals.{add-one}
@@ -12,8 +12,8 @@ use Rattle.compare_laws.specs.Places.{unparted}
 use Rattle.words.specs.Words.{tally}
 use Rattle.answers.specs.Row.{row_answer}
 use Rattle.answers.specs.RowLaws.{Whole, row-given, row_answered}
-use Rattle.answers.specs.declared.RowAnswer.{RowAnswer}
-use Rattle.answers.specs.declared.RowAnswer.TheVariants.{Row, Refused}
+use Rattle.answers.specs.declared.RowSet.{RowSet}
+use Rattle.std.specs.Prelude.{Ok, IsOk}
 use Rattle.text.specs.Text.{Wrote}
 use Rattle.text.specs.Laws.{wrote_both, wrote_within}
 use Rattle.listing_lines.specs.Lines.{row_line, total_line, cell_line, head_line, row_lines, pairs_in, pair_lines, head_most, row_most, total_most, pair_most, Sized, WroteRows}
@@ -31,16 +31,14 @@ three_written p q r h = wrote_within h (wrote_both (wrote_both p q) r)
 
 -- ---- the line of a cell
 
-module _ (map : List ℕ) (m i : ℕ) (a : RowAnswer) (e : a ≡ row_answer map m i) where
-  pub cell_answered : (r : ℕ) → Whole map m i → a ≡ Refused r → ⊥
-  cell_answered r w d =
-      let g : Row _ _ ≡ Refused r = sym (row-given map m i w) ∙ sym e ∙ d in
-      let z : ◌≡◌ {A = ℕ} 0 1 = cc in omega arith
+module _ (map : List ℕ) (m i : ℕ) (w : Whole map m i) where
+  pub cell_answered : IsOk (row_answer map m i)
+  cell_answered = rw (row-given map m i w) refl
 
-  pub cell_written : (word count : ℕ) {out exit : List ℕ} {at end : ℕ} → a ≡ Row word count → Wrote out at (row_line i count word) row_most exit end
-      → WroteRows out at (cell_line m (unparted m map) i) row_most (tally m (unparted m map i)) exit (record { end = end; matched = count })
-  cell_written word count {out} {exit} {at} {end} d w =
-      let s = row_answered map m i word count (sym e ∙ d) in
+  pub cell_written : (r : RowSet) {out exit : List ℕ} {at end : ℕ} → row_answer map m i ≡ Ok r → Wrote out at (row_line i r.count r.word) row_most exit end
+      → WroteRows out at (cell_line m (unparted m map) i) row_most (tally m (unparted m map i)) exit (record { end = end; matched = r.count })
+  cell_written r {out} {exit} {at} {end} d w =
+      let s = row_answered map m i r.word r.count d in
       record { wrote = rw (← s.is_word, ← s.is_count) w; counted = s.is_count }
 
 -- ---- the lines of the cells, one turn at a time

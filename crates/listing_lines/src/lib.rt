@@ -8,7 +8,7 @@ ghost use Rattle.answers.specs.RowLaws.{Whole};
 ghost use Rattle.text.specs.Text.{Wrote};
 ghost use Rattle.listing_lines.specs.Lines.{head_line, row_line, total_line, cell_line, row_lines, pairs_in, pair_lines, head_most, row_most, total_most, pair_most, Sized, WroteRows};
 
-use answers::RowAnswer;
+use answers::RowSet;
 
 // Row lines that were written: the byte after them, and how many matched pairs they tell of.
 #[derive(Clone, Copy)]
@@ -28,13 +28,13 @@ fn put_head(out: &mut [u8], at: usize, n: usize, m: usize, c: u8) -> usize
 }
 
 // Writes a left cell, its count and its word at `at`, and gives the byte after the line.
-fn put_row(out: &mut [u8], at: usize, i: usize, count: u32, word: u64) -> usize
+fn put_row(out: &mut [u8], at: usize, i: usize, row: RowSet) -> usize
     requires { at + row_most ≤ length out.old }
-    ensures { Wrote out.old at (row_line i count word) row_most out.new result }
+    ensures { Wrote out.old at (row_line i row.count row.word) row_most out.new result }
 {
     let end = text::put_labelled(out, at, b"row ", i as u64);
-    let end = text::put_labelled(out, end, b" count ", count as u64);
-    text::put_ending(out, end, b" word ", word)
+    let end = text::put_labelled(out, end, b" count ", row.count as u64);
+    text::put_ending(out, end, b" word ", row.word)
 }
 
 // Writes the totals at `at`, and gives the byte after the line.
@@ -51,17 +51,11 @@ fn put_cell(out: &mut [u8], at: usize, map: &[u16], m: usize, i: usize) -> Rows
     requires { (at + row_most ≤ length out.old) × Whole map.now m i }
     ensures { WroteRows out.old at (cell_line m (unparted m map.now) i) row_most (tally m (unparted m map.now i)) out.new result }
 {
-    let answer = answers::row(map, m, i);
-    let RowAnswer::Row { word, count } = answer else {
-        return Rows {
-            end: at,
-            matched: 0,
-        };
-    };
-    let end = put_row(out, at, i, count, word);
+    let row = answers::row(map, m, i).unwrap();
+    let end = put_row(out, at, i, row);
     Rows {
         end,
-        matched: count as usize,
+        matched: row.count as usize,
     }
 }
 
@@ -71,13 +65,11 @@ fn put_rows(out: &mut [u8], at: usize, map: &[u16], n: usize, m: usize) -> Rows
     ensures { WroteRows out.old at (row_lines n m (unparted m map.now)) (row_most * n) (pairs_in n m (unparted m map.now)) out.new result }
 {
     let mut end = at;
-    let mut matched: usize = 0;
-    let mut i = 0;
-    while i < n {
+    let mut matched = 0;
+    for i in 0..n {
         let row = put_cell(out, end, map, m, i);
         end = row.end;
         matched += row.matched;
-        i += 1;
     }
     Rows { end, matched }
 }

@@ -3,12 +3,17 @@ use mathlib.Core.Bool.{Bool, true, false}
 use mathlib.Core.List.{List}
 use mathlib.Core.Path.{◌≡◌, sym, ◌∙◌}
 use mathlib.Mathlib.Data.Bool.Basic.{or-eq-false-eq-eq-false-and-eq-false}
-use Prim.Native.Nat.{ℕ, ◌-◌, ◌≤◌, ◌<◌}
+use Prim.Native.Nat.{ℕ, ◌-◌, ◌≤◌, ◌<◌, min}
 use native.Mathlib.Omega.{arith}
-use borrow.Author.Tests.{lt-ltb, le-ltb, ltb-false, eq-eqb, ne_eqb, eqb-false}
+use borrow.Author.Tests.{lt-ltb, le-ltb, ltb-false, ne_eqb, eqb-false}
 use lib.Dec.{eqb, ltb, lit≤}
 use lib.ListN.{length, take, drop, get_or, length-drop}
 use lib.Seq.{length-take-le, take_all}
+use Rattle.std.proofs.Common.{⊎_elim}
+use Rattle.theory.proofs.TestLaws.{le-or-lt}
+use Rattle.outcome.specs.Refused.{number}
+use Rattle.outcome.specs.RefusalLaws.{number-some}
+use Rattle.outcome.specs.declared.Refusal.{Refusal}
 use Rattle.book.specs.Book.{length_of, cells_of, book_refusal}
 use Rattle.sheet.specs.Sheet.{most_bound}
 use Rattle.text.specs.Text.{ascii, ending, Wrote}
@@ -23,18 +28,26 @@ module _ (books : List ℕ) where
   left_short h = record { is = rw (lt-ltb (length books) 4 h); inside = omega arith }
 
   module _ (own : ℕ) (e : own ≡ length_of books) (h : 4 ≤ length books) where
-    pub left_all : length books < own → IsSplit books (length books)
+    left_all : length books < own → IsSplit books (length books)
     unfolding left_length
     left_all l = record { is = rw (← e, le-ltb (length books) 4 h, lt-ltb (length books) own l); inside = omega arith }
 
-    pub left_own : own ≤ length books → IsSplit books own
+    left_own : own ≤ length books → IsSplit books own
     unfolding left_length
     left_own l = record { is = rw (← e, le-ltb (length books) 4 h, le-ltb (length books) own l); inside = l }
+
+    -- the smaller of the two
+    pub left_least : (k : ℕ) → k ≡ min (length books) own → IsSplit books k
+    left_least k d =
+        ⊎_elim
+        (λ l. let m : k ≡ own = omega arith in rw m (left_own l))
+        (λ l. let m : k ≡ length books = omega arith in rw m (left_all l))
+        (le-or-lt own (length books))
 
 -- ---- whether a book has too many cells
 
 module _ (l r : List ℕ) (n : ℕ) (e : n ≡ cells_of l) where
-  pub many_left : most_listed < n → true ≡ many_cells l r
+  pub many_left : most_listed < n → ltb most_listed n ≡ many_cells l r
   unfolding many_cells
   many_left h = rw (← e, lt-ltb most_listed n h)
 
@@ -45,13 +58,14 @@ module _ (l r : List ℕ) (n : ℕ) (e : n ≡ cells_of l) where
 -- ---- whether c is refused
 
 module _ (input : List ℕ) where
-  pub bound_absent : length input ≡ 0 → true ≡ bound_refused input
-  unfolding bound_refused
-  bound_absent e = rw (eq-eqb (length input) 0 e)
+  module _ (t : Bool) (e : t ≡ eqb (length input) 0) where
+    pub bound_absent : t ≡ true → t ≡ bound_refused input
+    unfolding bound_refused
+    bound_absent d = rw (← e, d)
 
-  pub bound_there : (length input ≡ 0 → ⊥) → ltb most_bound (bound_in input) ≡ bound_refused input
-  unfolding bound_refused
-  bound_there f = rw (ne_eqb (length input) 0 f)
+    pub bound_there : t ≡ false → ltb most_bound (bound_in input) ≡ bound_refused input
+    unfolding bound_refused
+    bound_there d = rw (← e, d)
 
 -- ---- which line is written
 
@@ -65,19 +79,21 @@ module _ (l r : List ℕ) (c : ℕ) {out exit : List ℕ} {next : ℕ} where
     unfolding accepted_lines
     books_listed d w = rw (← e, d) w
 
-  module _ (k : ℕ) (e : k ≡ book_refusal l) where
-    pub left_refused : (k ≡ 0 → ⊥) → Wrote out 0 (ending (ascii "refused left ") k) 34 exit next → Wrote out 0 (book_lines l r c) most_listing exit next
+  -- k is the refusal of the left book, and n its number
+  pub left_refused : (k : Refusal) → number k ≡ book_refusal l → (n : ℕ) → n ≡ number k → Wrote out 0 (ending (ascii "refused left ") n) 34 exit next
+      → Wrote out 0 (book_lines l r c) most_listing exit next
+  unfolding book_lines
+  left_refused k e n d w = rw (← e, ne_eqb (number k) 0 (number-some k), ← d) (wrote_within (lit≤ tt) w)
+
+  module _ (z : 0 ≡ book_refusal l) where
+    pub right_refused : (k : Refusal) → number k ≡ book_refusal r → (n : ℕ) → n ≡ number k → Wrote out 0 (ending (ascii "refused right ") n) 35 exit next
+        → Wrote out 0 (book_lines l r c) most_listing exit next
     unfolding book_lines
-    left_refused f w = rw (← e, ne_eqb k 0 f) (wrote_within (lit≤ tt) w)
+    right_refused k e n d w = rw (← z, ← e, ne_eqb (number k) 0 (number-some k), ← d) (wrote_within (lit≤ tt) w)
 
-    module _ (z : k ≡ 0) (k' : ℕ) (d : k' ≡ book_refusal r) where
-      pub right_refused : (k' ≡ 0 → ⊥) → Wrote out 0 (ending (ascii "refused right ") k') 35 exit next → Wrote out 0 (book_lines l r c) most_listing exit next
-      unfolding book_lines
-      right_refused f w = rw (← e, ← d, eq-eqb k 0 z, ne_eqb k' 0 f) (wrote_within (lit≤ tt) w)
-
-      pub books_accepted : k' ≡ 0 → Wrote out 0 (accepted_lines l r c) most_listing exit next → Wrote out 0 (book_lines l r c) most_listing exit next
-      unfolding book_lines
-      books_accepted z' w = rw (← e, ← d, eq-eqb k 0 z, eq-eqb k' 0 z') w
+    pub books_accepted : 0 ≡ book_refusal r → Wrote out 0 (accepted_lines l r c) most_listing exit next → Wrote out 0 (book_lines l r c) most_listing exit next
+    unfolding book_lines
+    books_accepted z' w = rw (← z, ← z') w
 
 -- books without too many cells are listed
 pub few_listed : (l r : List ℕ) (c : ℕ) (t : Bool) → book_refusal l ≡ 0 → book_refusal r ≡ 0 → c ≤ most_bound → t ≡ many_cells l r → t ≡ false → Listed l r c

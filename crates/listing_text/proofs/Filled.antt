@@ -1,11 +1,10 @@
 -- What Compare leaves in the map of two books that are listed, and the listing of that map.
 use mathlib.Core.List.{List}
-use mathlib.Core.Path.{◌≡◌, sym, ap, ◌∙◌}
-use Prim.Native.Nat.{ℕ, ◌*◌, ◌^◌, ◌≤◌, ◌<◌}
+use mathlib.Core.Path.{◌≡◌, refl, sym, ap, ◌∙◌}
+use Prim.Native.Nat.{ℕ, ◌≤◌, ◌<◌}
 use native.Mathlib.Nat.{mul-le-mul}
 use native.Mathlib.Omega.{arith}
-use lib.ListN.{length, get_or, take}
-use lib.Seq.{length-take-le}
+use lib.ListN.{length, get_or}
 use Rattle.theory.specs.Bisimulation.{two_sided}
 use Rattle.theory.specs.Rounds.{matched}
 use Rattle.book.specs.Book.{cells_of}
@@ -18,16 +17,22 @@ use Rattle.compare_laws.proofs.PlaceLaws.{among-at}
 use mir.Syntax.{w8}
 use mir.Val.{Fits}
 use Rattle.compare_lists.specs.BookSetting.{sheet_version}
-use Rattle.compare.specs.Compare.{pairs_of, compared_map, compared_sheet, Lists, left_by, lent, right_answer, IsCompare}
+use Rattle.std.specs.Prelude.{Result, IsOk}
+use Rattle.fields.specs.Fields.{Bytes}
+use Rattle.outcome.specs.declared.Refused.{Refused}
+use Rattle.compare.specs.Compare.{pairs_of, serves, compared_map, compared_sheet, Lists, left_by, lent, right_answer, IsCompare}
 use Rattle.compare.specs.Promises.{Given, map_places, zeros-matched}
 use Rattle.compare.specs.Laws.{room_most, accepts_compared}
-use Rattle.compare.specs.declared.CompareAnswer.{CompareAnswer}
-use Rattle.compare.specs.declared.CompareAnswer.TheVariants.{Compared}
+use Rattle.compare.specs.declared.Compared.{Compared}
 use Rattle.text.specs.Text.{Wrote}
 use Rattle.text.specs.Laws.{wrote_within}
 use Rattle.listing_lines.specs.Lines.{pair_lines, pair_most, Sized}
 use Rattle.listing_lines.specs.Laws.{pair_lines_ext}
 use Rattle.listing_text.specs.Listing.{most_listing, matched_lines, Listed, MatchMap}
+
+-- what a slice of bytes gives
+pub bytes_known : (s : List ℕ) → ((i : ℕ) → Fits w8 (get_or s i 0)) → Bytes s
+bytes_known s f = record { each = λ i. (f i).fits }
 
 -- Nothing is hidden.
 abbrev hidden : Hidden
@@ -37,8 +42,8 @@ module _ (l r : List ℕ) (c : ℕ) (g : Listed l r c) where
   pairs_few : pairs_of l r ≤ 1024
   pairs_few = mul-le-mul g.few_left g.few_right
 
-  module _ (map room scratch map' room' scratch' : List ℕ) (a : CompareAnswer) (h : length map ≡ pairs_of l r) (f : 65536 ≡ length room) (k : 65536 ≡ length scratch) where
-    served : right_answer two_sided l r c hidden (lent map room scratch) ≡ Compared (length (compared_sheet two_sided l r c hidden)) (zeros (compared_map two_sided l r c hidden))
+  module _ (map room scratch map' room' scratch' : List ℕ) (a : Result Compared Refused) (h : length map ≡ pairs_of l r) (f : 65536 ≡ length room) (k : 65536 ≡ length scratch) where
+    served : right_answer two_sided l r c hidden (lent map room scratch) ≡ serves (length (compared_sheet two_sided l r c hidden)) (zeros (compared_map two_sided l r c hidden))
     served =
         accepts_compared l r c hidden (length map) (length room) (length scratch) (length (compared_sheet two_sided l r c hidden)) (zeros (compared_map two_sided l r c hidden))
         (record {
@@ -52,35 +57,21 @@ module _ (l r : List ℕ) (c : ℕ) (g : Listed l r c) where
           spare = omega (arith, pairs_few);
         })
 
-    -- the zeros of the map are the matched pairs
-    pub map-filled : ((i : ℕ) → Fits w8 (get_or l i 0)) → ((i : ℕ) → Fits w8 (get_or r i 0)) → IsCompare two_sided l r c hidden (lent map room scratch) a (lent map' room' scratch')
-        → MatchMap l r c map'
+    -- nothing is declined,
+    pub map-answered : IsCompare two_sided l r c hidden (lent map room scratch) a (lent map' room' scratch') → IsOk a
+    map-answered s = rw (s.answer ∙ served) refl
+
+    -- and the zeros of the map are the matched pairs
+    pub map-filled : Bytes l × Bytes r → IsCompare two_sided l r c hidden (lent map room scratch) a (lent map' room' scratch') → MatchMap l r c map'
     unfolding left_by
-    map-filled bl br s =
-        let books : Given l r c =
-        record { bytes = (record { each = λ i. (bl i).fits }, record { each = λ i. (br i).fits }); left = g.left; right = g.right; bound = g.bounded } in
+    map-filled b s =
+        let books : Given l r c = record { bytes = b; left = g.left; right = g.right; bound = g.bounded } in
         let e : map' ≡ compared_map two_sided l r c hidden = ap (λ (x : Lists). x.map) (s.lists ∙ ap (left_by two_sided l r c hidden (lent map room scratch)) served) in
         rw e (record { places = map_places two_sided hidden books; matching = rw (← seen_all l, ← seen_all r) (zeros-matched hidden books) })
 
   -- ---- the listing of the map
 
   module _ (n m : ℕ) (en : n ≡ cells_of l) (em : m ≡ cells_of r) where
-    places_few : n * m ≤ 1024
-    places_few = rw (en, em) pairs_few
-
-    pub places_fit : n * m < 2 ^ 64
-    places_fit = omega (arith, places_few)
-
-    module _ (all : List ℕ) (h : 1024 ≡ length all) where
-      pub places_inside : n * m ≤ length all
-      places_inside = omega (arith, places_few)
-
-      pub places_counted : n * m ≡ length (take (n * m) all)
-      places_counted = sym (length-take-le (n * m) all places_inside)
-
-      pub places_asked : length (take (n * m) all) ≡ pairs_of l r
-      places_asked = sym places_counted ∙ rw (en, em)
-
     module _ (map : List ℕ) (f : MatchMap l r c map) where
       pub map-sized : Sized map n m
       map-sized =

@@ -2,15 +2,17 @@
 #![tactic(auto)]
 
 ghost use Rattle.std.specs.Prelude.{◌≡◌, ◌≤◌, length};
-ghost use Rattle.book.specs.Book.{book_refusal};
+ghost use Rattle.fields.specs.Fields.{Bytes};
 ghost use Rattle.sheet.specs.Sheet.{most_bound};
 ghost use Rattle.text.specs.Text.{Wrote};
 ghost use Rattle.compare.specs.Compare.{pairs_of};
 ghost use Rattle.listing_text.specs.Listing.{most_listing, matched_lines, many_cells, accepted_lines, book_lines, split_lines, bound_refused, listing_of, IsSplit, MatchMap, Listed, IsListing};
 
-use book::Hidden;
+use book::{Book, Hidden};
+use outcome::Refusal;
 
 // A text: the first `length` bytes.
+// Stays: no heap, so the bytes have a length beside.
 #[derive(Clone, Copy)]
 pub struct Text {
     pub bytes: [u8; 4096],
@@ -31,11 +33,7 @@ fn left_length(books: &[u8]) -> usize
     if all < 4 {
         return all;
     }
-    let own = fields::get4(books, 0) as usize;
-    if all < own {
-        return all;
-    }
-    own
+    all.min(fields::get::<4>(books, 0) as usize)
 }
 
 // A place for each of 32 × 32 pairs. What they hold at first is of no matter, and is not said.
@@ -45,33 +43,35 @@ fn places() -> [u16; 1024]
     [0; 1024]
 }
 
-// Compares two accepted books of at most 32 cells: the zeros of the map become the matched pairs.
-fn fill(left: &[u8], right: &[u8], c: u8, map: &mut [u16])
-    requires { Listed left.now right.now c × (length map.old ≡ pairs_of left.now right.now) }
-    ensures { MatchMap left.now right.now c map.new }
+// Compares two accepted books of at most 32 cells: the zeros of the map become the matched pairs. (That a book's numbers are bytes is asked
+// for here and below since the type of a book does not say it.)
+fn fill(left: Book<'_>, right: Book<'_>, c: u8, map: &mut [u16])
+    requires { Listed left.bytes.now right.bytes.now c × (length map.old ≡ pairs_of left.bytes.now right.bytes.now) × (Bytes left.bytes.now × Bytes right.bytes.now) }
+    ensures { MatchMap left.entry.bytes.now right.entry.bytes.now c map.new }
 {
     let mut room = io::large_buffer();
     let mut scratch = io::large_buffer();
     let hidden = Hidden { left: 0, right: 0 };
     compare::compare(
-        left,
-        right,
+        left.bytes,
+        right.bytes,
         c as usize,
         hidden,
         true,
         map,
         &mut room,
         &mut scratch,
-    );
+    )
+    .unwrap();
 }
 
 // Writes the listing of two accepted books of at most 32 cells.
-fn put_matched(out: &mut [u8], left: &[u8], right: &[u8], c: u8) -> usize
-    requires { Listed left.now right.now c × (most_listing ≤ length out.old) }
-    ensures { Wrote out.old 0 (matched_lines left.now right.now c) most_listing out.new result }
+fn put_matched(out: &mut [u8], left: Book<'_>, right: Book<'_>, c: u8) -> usize
+    requires { Listed left.bytes.now right.bytes.now c × (most_listing ≤ length out.old) × (Bytes left.bytes.now × Bytes right.bytes.now) }
+    ensures { Wrote out.old 0 (matched_lines left.entry.bytes.now right.entry.bytes.now c) most_listing out.new result }
 {
-    let n = book::cells_of(left);
-    let m = book::cells_of(right);
+    let n = left.cells();
+    let m = right.cells();
     let pairs = n * m;
     let mut all = places();
     let map = &mut all[..pairs];
@@ -80,20 +80,16 @@ fn put_matched(out: &mut [u8], left: &[u8], right: &[u8], c: u8) -> usize
 }
 
 // Whether one of two accepted books has too many cells.
-fn many_cells(left: &[u8], right: &[u8]) -> bool
-    requires { (book_refusal left.now ≡ 0) × (book_refusal right.now ≡ 0) }
-    ensures { result ≡ many_cells left.now right.now }
+fn many_cells(left: Book<'_>, right: Book<'_>) -> bool
+    ensures { result ≡ many_cells left.entry.bytes.now right.entry.bytes.now }
 {
-    if book::cells_of(left) <= MOST_CELLS {
-        return MOST_CELLS < book::cells_of(right);
-    }
-    true
+    MOST_CELLS < left.cells() || MOST_CELLS < right.cells()
 }
 
 // Writes the listing of two accepted books, or that one is too large.
-fn put_accepted(out: &mut [u8], left: &[u8], right: &[u8], c: u8) -> usize
-    requires { (book_refusal left.now ≡ 0) × (book_refusal right.now ≡ 0) × (c ≤ most_bound) × (most_listing ≤ length out.old) }
-    ensures { Wrote out.old 0 (accepted_lines left.now right.now c) most_listing out.new result }
+fn put_accepted(out: &mut [u8], left: Book<'_>, right: Book<'_>, c: u8) -> usize
+    requires { (c ≤ most_bound) × (most_listing ≤ length out.old) × (Bytes left.bytes.now × Bytes right.bytes.now) }
+    ensures { Wrote out.old 0 (accepted_lines left.entry.bytes.now right.entry.bytes.now c) most_listing out.new result }
 {
     if many_cells(left, right) {
         return text::put(out, 0, b"too large\n");
@@ -106,14 +102,14 @@ fn put_books(out: &mut [u8], left: &[u8], right: &[u8], c: u8) -> usize
     requires { (c ≤ most_bound) × (most_listing ≤ length out.old) }
     ensures { Wrote out.old 0 (book_lines left.now right.now c) most_listing out.new result }
 {
-    let refusal = book::refusal_of(left);
-    if refusal != 0 {
-        return text::put_ending(out, 0, b"refused left ", refusal as u64);
-    }
-    let refusal = book::refusal_of(right);
-    if refusal != 0 {
-        return text::put_ending(out, 0, b"refused right ", refusal as u64);
-    }
+    let left = match Book::check(left) {
+        Ok(book) => book,
+        Err(refusal) => return text::put_ending(out, 0, b"refused left ", refusal.number() as u64),
+    };
+    let right = match Book::check(right) {
+        Ok(book) => book,
+        Err(refusal) => return text::put_ending(out, 0, b"refused right ", refusal.number() as u64),
+    };
     put_accepted(out, left, right, c)
 }
 
@@ -121,10 +117,7 @@ fn put_books(out: &mut [u8], left: &[u8], right: &[u8], c: u8) -> usize
 fn bound_refused(input: &[u8]) -> bool
     ensures { result ≡ bound_refused input.now }
 {
-    if input.len() == 0 {
-        return true;
-    }
-    sheet::MOST_BOUND < input[0]
+    input.is_empty() || sheet::MOST_BOUND < input[0]
 }
 
 // Writes the listing of the books that follow the byte c.
@@ -145,7 +138,7 @@ fn put_listing(out: &mut [u8], input: &[u8]) -> usize
         return text::put(out, 0, b"too large\n");
     }
     if bound_refused(input) {
-        return text::put_ending(out, 0, b"refused ", 20);
+        return text::put_ending(out, 0, b"refused ", Refusal::BoundAbove.number() as u64);
     }
     put_split(out, &input[1..], input[0])
 }

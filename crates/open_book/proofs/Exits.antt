@@ -8,33 +8,24 @@ use native.Mathlib.Omega.{arith}
 use borrow.Author.Tests.{lt-ltb, le-ltb, lt-leb, ltb-true, leb-true, eq-eqb, ne_eqb}
 use lib.Dec.{leb}
 use lib.ListN.{length, take, drop}
+use Rattle.std.specs.Prelude.{Some, None, Result, Ok}
+use Rattle.outcome.specs.declared.Refusal.{Refusal}
+use Rattle.book.specs.declared.Counts.{Counts}
 use Rattle.fields.specs.Label.{label_width}
 use Rattle.theory.proofs.TestLaws.{and_iff}
 use Rattle.book.specs.Book.{recording_place, recording_at, version_of, link_width, link_start, link_in, book_answer}
 use Rattle.book.specs.BookLinks.{links_before, links_after}
 use Rattle.book.specs.OutgoingLaws.{before-rises}
-use Rattle.book.specs.declared.BookAnswer.{BookAnswer}
-use Rattle.book.specs.declared.BookAnswer.TheVariants.{Accepted, Refused}
 use Rattle.book.specs.declared.Recording.{Recording}
-use Rattle.open_book.specs.declared.Counts.{Counts}
-use Rattle.open_book.specs.declared.RecordingAnswer.TheVariants.{Recorded, NoCell}
-use Rattle.open_book.specs.Opened.{counts_of, answer_kept, has_kept, recording_kept, run_kept, part_kept}
-
--- ---- the counts
-module _ {a : BookAnswer} (s : List ℕ) (d : a ≡ book_answer s) where
-  pub counts_accepted : (n e : ℕ) → a ≡ Accepted n e → ◌≡◌ {A = Counts} (record { cells = n; links = e }) (counts_of (book_answer s))
-  counts_accepted n e p = rw (← d, p)
-
-  pub counts_refused : (r : ℕ) → a ≡ Refused r → ◌≡◌ {A = Counts} (record { cells = 0; links = 0 }) (counts_of (book_answer s))
-  counts_refused r p = rw (← d, p)
+use Rattle.open_book.specs.Opened.{answer_kept, has_kept, recording_kept, run_kept, part_kept}
 
 -- ---- the answer
 module _ (s : List ℕ) (n e : ℕ) where
-  pub answer_checked : {a : BookAnswer} → n ≡ 0 → a ≡ book_answer s → a ≡ answer_kept s n e
+  pub answer_checked : {a : Result Counts Refusal} → n ≡ 0 → a ≡ book_answer s → a ≡ answer_kept s n e
   unfolding answer_kept
   answer_checked z d = rw (eq-eqb n 0 z) d
 
-  pub answer_counted : (n ≡ 0 → ⊥) → Accepted n e ≡ answer_kept s n e
+  pub answer_counted : (n ≡ 0 → ⊥) → Ok (record { cells = n; links = e }) ≡ answer_kept s n e
   unfolding answer_kept
   answer_counted f = rw (ne_eqb n 0 f)
 
@@ -67,7 +58,7 @@ module _ (s : List ℕ) (n e x : ℕ) where
       pub recorded_room : recording_place (x + 1) ≤ length s
       recorded_room = omega (arith, kept-below, kept_room)
 
-      pub recorded : (r : Recording) → r.0 ≡ recording_at s x → Recorded r ≡ recording_kept s n e x
+      pub recorded : (r : Recording) → r.0 ≡ recording_at s x → Some r ≡ recording_kept s n e x
       unfolding recording_kept
       recorded r e = rw (← d, p, ← e)
 
@@ -76,7 +67,7 @@ module _ (s : List ℕ) (n e x : ℕ) where
       part-run e = rw (← d, p) e
 
     module _ (p : t ≡ false) where
-      pub recorded_none : NoCell ≡ recording_kept s n e x
+      pub recorded_none : None ≡ recording_kept s n e x
       unfolding recording_kept
       recorded_none = rw (← d, p)
 
@@ -91,9 +82,6 @@ module _ (s : List ℕ) (n e x first end from to : ℕ) (df : first ≡ links_be
   run-rises =
       let r : first ≤ end = rw (df, de) (before-rises x e (λ k. link_in (label_width (version_of s)) s (link_start s n k))) in
       omega (arith, mul-le-mul_left (link_width s) r)
-
-  pub run_ends : link_start s n e ≤ length s → end ≤ e → to ≤ length s
-  run_ends h l = omega (arith, mul-le-mul_left (link_width s) l)
 
   pub run_bytes : take (to - from) (drop from s) ≡ run_kept s n e x
   unfolding run_kept

@@ -1,73 +1,14 @@
 // An opened book (01: "opens a checked book once and keeps its bytes and counts for reading links"): a struct that holds the lent bytes and
-// the counts n and e. Its readers go by these, and check an accepted book no second time. Each takes the struct apart and leaves the work to a
-// function on the slice and the numbers.
+// the counts n and e. Its readers go by these, and check an accepted book no second time.
 #![tactic(auto)]
 
 ghost use Rattle.std.specs.Prelude.{◌≡◌, ◌≤◌, ◌<◌, length};
 ghost use Rattle.book.specs.Book.{link_start, book_answer};
 ghost use Rattle.book.specs.BookLinks.{links_part};
-ghost use Rattle.open_book.specs.Opened.{counts_of, opened, answer_kept, has_kept, recording_kept, run_kept, part_kept, open_answer, open_recording, open_part};
+ghost use Rattle.open_book.specs.Opened.{opened, open_answer, has_kept, open_recording, run_kept, open_part};
 
-// The counts of a book.
-#[derive(Clone, Copy)]
-pub struct Counts {
-    pub cells: u8,
-    pub links: u16,
-}
-
-// What an opened book answers of a cell's recording: the recording, or that the book has no such cell. (A reader, and no operation with
-// refusals of its own numbers.)
-#[derive(Clone, Copy)]
-pub enum RecordingAnswer {
-    Recorded(book::Recording),
-    NoCell,
-}
-
-// A book's counts, by its check. A refused book has no cells and no links; an accepted one has a cell.
-fn counts_of(bytes: &[u8]) -> Counts
-    ensures { result ≡ counts_of (book_answer bytes.now) }
-{
-    let answer = book::check(bytes);
-    match answer {
-        book::BookAnswer::Accepted { cells, links } => Counts { cells, links },
-        book::BookAnswer::Refused(_) => Counts { cells: 0, links: 0 },
-    }
-}
-
-// The check's answer, by the counts kept. Where there are no cells the book was refused, and is asked for its refusal.
-fn answer_of(bytes: &[u8], cells: u8, links: u16) -> book::BookAnswer
-    ensures { result ≡ answer_kept bytes.now cells links }
-{
-    if cells == 0 {
-        return book::check(bytes);
-    }
-    book::BookAnswer::Accepted { cells, links }
-}
-
-// Whether there is such a cell, by the counts kept: it is below n, and the cells and links lie in the bytes, as those of an opened book do.
-fn has_cell(bytes: &[u8], cells: u8, links: u16, cell: usize) -> bool
-    ensures { result ≡ has_kept bytes.now cells links cell }
-{
-    let n = cells as usize;
-    if n <= cell {
-        return false;
-    }
-    if bytes.len() < 8 {
-        return false;
-    }
-    book::link_start(bytes, n, links as usize) <= bytes.len()
-}
-
-// The recording of a cell, by the counts kept.
-fn recording_of(bytes: &[u8], cells: u8, links: u16, cell: usize) -> RecordingAnswer
-    ensures { result ≡ recording_kept bytes.now cells links cell }
-{
-    if has_cell(bytes, cells, links, cell) {
-        let recording = book::recording_at(bytes, cell);
-        return RecordingAnswer::Recorded(recording);
-    }
-    RecordingAnswer::NoCell
-}
+use book::{Counts, Recording};
+use outcome::Refusal;
 
 // The bytes of the links out of a cell, by counts whose links lie in the bytes.
 fn run_of(bytes: &[u8], cells: usize, links: usize, cell: usize) -> &[u8]
@@ -81,17 +22,8 @@ fn run_of(bytes: &[u8], cells: usize, links: usize, cell: usize) -> &[u8]
     &bytes[from..to]
 }
 
-// The part of the bytes that holds the links out of a cell, by the counts kept. It is empty where there are none or there is no such cell.
-fn part_of(bytes: &[u8], cells: u8, links: u16, cell: usize) -> &[u8]
-    ensures { result.now ≡ part_kept bytes.now cells links cell }
-{
-    if has_cell(bytes, cells, links, cell) {
-        return run_of(bytes, cells as usize, links as usize, cell);
-    }
-    &bytes[..0]
-}
-
 // An opened book: the lent bytes, and its cells and links as checked. Only `open` makes one.
+// Stays: it holds no `book::Book`, since a refused book is opened too (01), and `opened_answer` speaks of both.
 #[derive(Clone, Copy)]
 pub struct OpenBook<'a> {
     bytes: &'a [u8],
@@ -104,7 +36,7 @@ impl<'a> OpenBook<'a> {
     pub fn open(bytes: &'a [u8]) -> OpenBook<'a>
         ensures { result ≡ opened bytes.entry }
     {
-        let counts = counts_of(bytes);
+        let counts = book::check(bytes).unwrap_or(Counts { cells: 0, links: 0 });
         OpenBook {
             bytes,
             cells: counts.cells,
@@ -112,18 +44,42 @@ impl<'a> OpenBook<'a> {
         }
     }
 
-    // What the check answered: n and e, or the refusal.
-    pub fn answer(self) -> book::BookAnswer
+    // What the check answered: n and e, or the refusal. Where there are no cells the book was refused, and is asked for its refusal.
+    pub fn answer(self) -> Result<Counts, Refusal>
         ensures { result ≡ open_answer self.entry }
     {
-        answer_of(self.bytes, self.cells, self.links)
+        if self.cells == 0 {
+            return book::check(self.bytes);
+        }
+        Ok(Counts {
+            cells: self.cells,
+            links: self.links,
+        })
     }
 
-    // The recording of a cell, or that the book has no such cell, as a refused one has none.
-    pub fn recording(self, cell: usize) -> RecordingAnswer
+    // Whether there is such a cell, by the counts kept: it is below n, and the cells and links lie in the bytes, as those of an opened book do.
+    fn has_cell(self, cell: usize) -> bool
+        ensures { result ≡ has_kept self.entry.bytes.now self.entry.cells self.entry.links cell }
+    {
+        let n = self.cells as usize;
+        if n <= cell {
+            return false;
+        }
+        if self.bytes.len() < 8 {
+            return false;
+        }
+        book::link_start(self.bytes, n, self.links as usize) <= self.bytes.len()
+    }
+
+    // The recording of a cell, or none where the book has no such cell, as a refused one has none. (A reader, and no operation with refusals of
+    // its own numbers.)
+    pub fn recording(self, cell: usize) -> Option<Recording>
         ensures { result ≡ open_recording self.entry cell }
     {
-        recording_of(self.bytes, self.cells, self.links, cell)
+        if self.has_cell(cell) {
+            return Some(book::recording_at(self.bytes, cell));
+        }
+        None
     }
 
     // Links: the part of the lent book that holds the links out of the cell. It is empty where there are none, and where the book has no
@@ -131,7 +87,10 @@ impl<'a> OpenBook<'a> {
     pub fn links_out(self, cell: usize) -> &'a [u8]
         ensures { result.now ≡ open_part self.entry cell }
     {
-        part_of(self.bytes, self.cells, self.links, cell)
+        if self.has_cell(cell) {
+            return run_of(self.bytes, self.cells as usize, self.links as usize, cell);
+        }
+        &self.bytes[..0]
     }
 }
 

@@ -1,4 +1,5 @@
 pub mod Outcome
 pub mod OutcomeLaws
 pub mod Refusals
+pub mod Refused
 pub mod RefusalLaws

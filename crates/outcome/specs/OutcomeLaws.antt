@@ -3,6 +3,12 @@
 use Rattle.std.specs.Prelude.{◌≡◌, ℕ, ◌+◌, ◌*◌, ◌/◌, ◌%◌, ◌^◌, ◌<◌}
 use Rattle.std.proofs.Common.{arith}
 use Rattle.outcome.specs.Outcome.{Outcome, accepted, refused, code, Fits}
+use Rattle.outcome.specs.Refused.{number, part_number, declined}
+use Rattle.outcome.specs.declared.Refusal.{Refusal}
+use Rattle.outcome.specs.declared.Refusal.TheVariants as says
+use Rattle.outcome.specs.declared.Part.{Part}
+use Rattle.outcome.specs.declared.Part.TheVariants as part
+use Rattle.outcome.specs.declared.Refused.{Refused}
 
 module _ (o : Outcome) (f : Fits o) where
   -- the number has 64 bits
@@ -41,3 +47,41 @@ accepted_fits first second a b = record { refusal = omega arith; part = omega ar
 
 pub refused_fits : (part number : ℕ) → part < 2 ^ 8 → number < 2 ^ 8 → Fits (refused part number)
 refused_fits part number a b = record { refusal = b; part = a; first = omega arith; second = omega arith }
+
+number_fits : (r : Refusal) → number r < 2 ^ 8
+number_fits says.FewBytes = omega arith
+number_fits says.OtherLength = omega arith
+number_fits says.OtherVersion = omega arith
+number_fits says.BookCounts = omega arith
+number_fits says.OtherSize = omega arith
+number_fits says.LinkCell = omega arith
+number_fits says.LinkOrder = omega arith
+number_fits says.SheetCounts = omega arith
+number_fits says.EntryBytes = omega arith
+number_fits says.OtherKind = omega arith
+number_fits says.ManySteps = omega arith
+number_fits says.NotEarlier = omega arith
+number_fits says.FirstEntry = omega arith
+number_fits says.BodyBytes = omega arith
+number_fits says.BoundAbove = omega arith
+number_fits says.MapLength = omega arith
+number_fits says.FewRoom = omega arith
+number_fits says.FewScratch = omega arith
+number_fits says.FewWords = omega arith
+number_fits says.NoEntry = omega arith
+number_fits says.NoPlace = omega arith
+number_fits says.RowLength = omega arith
+number_fits says.LongChain = omega arith
+number_fits says.LongText = omega arith
+number_fits says.TextRoom = omega arith
+number_fits says.HiddenBeyond = omega arith
+
+part_fits : (p : Part) → part_number p < 2 ^ 8
+part_fits part.Call = omega arith
+part_fits part.LeftBook = omega arith
+part_fits part.RightBook = omega arith
+part_fits part.Sheet = omega arith
+
+-- each refusal does
+pub declined_fits : (r : Refused) → Fits (declined r)
+declined_fits r = refused_fits _ _ (part_fits r.part) (number_fits r.refusal)

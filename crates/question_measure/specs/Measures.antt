@@ -62,6 +62,10 @@ module _ (cs ls : List ℕ) where
   abbrev pub plain_measure : Entry → Measure
   plain_measure e = plain_by_lem (kind_of e) (referred cs ls (get_or (numbers e) 0 0)) (referred cs ls (get_or (numbers e) 1 0))
 
+  -- The two ways of a same or differ.
+  abbrev pub pair_measure : Entry → Measure
+  pair_measure e = beside (way_measure (first_way_lem e)) (way_measure (second_way e))
+
   -- A way, same or differ.
   abbrev pub ways_measure : Entry → Measure
   ways_measure e = ways_by (kind_of e) (way_measure (first_way_lem e)) (way_measure (second_way e))

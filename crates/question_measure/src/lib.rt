@@ -2,22 +2,15 @@
 // entry, from those of the entries before.
 #![tactic(auto)]
 
-ghost use Rattle.std.specs.Prelude.{◌≡◌, ◌+◌, ◌≤◌, ◌<◌, min, length, get_or};
-ghost use Rattle.sheet.specs.Entry.{kind_of, step_in, numbers};
-ghost use Rattle.sheet.specs.Sheet.{count_of, entry_at, question_of, sheet_refusal};
-ghost use Rattle.sheet.specs.Reading.{HasNumber, steps_of};
-ghost use Rattle.sheet.specs.Known.{WayKnown, EntryKnown, EntriesFit};
-ghost use Rattle.question_measure.specs.Measures.{chain_cap, length_cap, measured, beside, longer, referred, step_measure, steps_measure, way_measure, plain_measure, ways_measure, entry_measure};
+ghost use Rattle.std.specs.Prelude.{◌≡◌, ◌+◌, ◌≤◌, ◌<◌, length, get_or};
+ghost use Rattle.sheet.specs.Entry.{step_in, numbers};
+ghost use Rattle.sheet.specs.Sheet.{count_of, entry_at, question_of};
+ghost use Rattle.sheet.specs.Reading.{HasNumber, HasWay, steps_of};
+ghost use Rattle.sheet.specs.Known.{WayKnown, EntryKnown};
+ghost use Rattle.question_measure.specs.Measures.{measured, beside, longer, referred, step_measure, steps_measure, way_measure, pair_measure, entry_measure};
 ghost use Rattle.question_measure.specs.MeasureLaws.{Measured};
 
-use sheet::{Question, Steps};
-
-// How many references the longest chain from a question has, up to 1,025, and how many bytes its text has, up to 2 to the 32.
-#[derive(Clone, Copy)]
-pub struct Measure {
-    pub chain: u16,
-    pub length: u64,
-}
+use sheet::{Kind, Question, Sheet, Steps};
 
 // The most references of a chain, and the most bytes of a text.
 pub const MOST_CHAIN: u16 = 1024;
@@ -32,209 +25,164 @@ const LENGTH_CAP: u64 = MOST_LENGTH + 1;
 // The most entries of a sheet.
 const ENTRIES: usize = sheet::MOST_ENTRIES as usize;
 
-// The sum of two lengths, up to the limit.
-fn sum(x: u64, y: u64) -> u64
-    ensures { result ≡ min length_cap (x + y) }
-{
-    if LENGTH_CAP <= x {
-        return LENGTH_CAP;
-    }
-    if LENGTH_CAP <= y {
-        return LENGTH_CAP;
-    }
-    if LENGTH_CAP <= x + y {
-        return LENGTH_CAP;
-    }
-    x + y
+// How many references the longest chain from a question has, up to 1,025, and how many bytes its text has, up to 2 to the 32.
+#[derive(Clone, Copy)]
+pub struct Measure {
+    pub chain: u16,
+    pub length: u64,
 }
 
-// A chain, up to the limit.
-fn capped(x: u16) -> u16
-    ensures { result ≡ min chain_cap x }
-{
-    if CHAIN_CAP <= x {
-        return CHAIN_CAP;
+impl Measure {
+    // This part and another beside each other.
+    fn beside(self, other: Measure) -> Measure
+        ensures { result ≡ beside self other }
+    {
+        Measure {
+            chain: self.chain.max(other.chain).min(CHAIN_CAP),
+            length: self.length.saturating_add(other.length).min(LENGTH_CAP),
+        }
     }
-    x
-}
 
-// Two parts beside each other.
-fn beside(a: Measure, b: Measure) -> Measure
-    ensures { result ≡ beside a b }
-{
-    let length = sum(a.length, b.length);
-    if a.chain < b.chain {
-        return Measure {
-            chain: capped(b.chain),
-            length,
-        };
-    }
-    Measure {
-        chain: capped(a.chain),
-        length,
+    // This part and n bytes more.
+    fn longer(self, n: u64) -> Measure
+        ensures { result ≡ longer self n }
+    {
+        Measure {
+            chain: self.chain.min(CHAIN_CAP),
+            length: self.length.saturating_add(n).min(LENGTH_CAP),
+        }
     }
 }
 
-// A part and n bytes more.
-fn longer(a: Measure, n: u64) -> Measure
-    ensures { result ≡ longer a n }
-{
-    Measure {
-        chain: capped(a.chain),
-        length: sum(a.length, n),
+// The chains and lengths of a sheet's entries, as far as they are known.
+// Stays: two lists, since one of `Measure` has 16 bytes a place in place of 10, and include/cuhnavel.h promises the stack of the length.
+#[derive(Drop)]
+struct Known {
+    chains: [u16; ENTRIES],
+    lengths: [u64; ENTRIES],
+}
+
+impl Known {
+    // A reference to entry i: one reference more.
+    fn referred(&self, i: usize) -> Measure
+        requires { i < length self.now.chains }
+        ensures { result ≡ referred self.now.chains self.now.lengths i }
+    {
+        Measure {
+            chain: self.chains[i].saturating_add(1).min(CHAIN_CAP),
+            length: self.lengths[i].min(LENGTH_CAP),
+        }
     }
-}
 
-// A reference to entry i: one reference more.
-fn referred(chains: &[u16], lengths: &[u64], i: usize) -> Measure
-    requires { (i < length chains.now) × (length chains.now ≤ length lengths.now) }
-    ensures { result ≡ referred chains.now lengths.now i }
-{
-    let length = sum(lengths[i], 0);
-    let chain = chains[i];
-    if CHAIN_CAP <= chain {
-        return Measure {
-            chain: CHAIN_CAP,
-            length,
-        };
+    // A reference to the entry that number i of the not, and or or at `at` names.
+    fn named(&self, sheet: &[u8], at: usize, i: usize) -> Measure
+        requires { HasNumber sheet.now at i × EntryKnown sheet.now at (length self.now.chains) }
+        ensures { result ≡ referred self.now.chains self.now.lengths (get_or (numbers (entry_at sheet.now at)) i 0) }
+    {
+        let k = sheet::number(sheet, at, i).0 as usize;
+        self.referred(k)
     }
-    Measure {
-        chain: chain + 1,
-        length,
+
+    // Step i of a way: a slash, the label, and a reference to the test's entry in brackets.
+    fn step(&self, sheet: &[u8], way: Steps, i: usize) -> Measure
+        requires { (i < way.count) × WayKnown sheet.now way (length self.now.chains) }
+        ensures { result ≡ step_measure self.now.chains self.now.lengths (step_in (steps_of sheet.now way) i) }
+    {
+        let label = sheet::label(sheet, way, i);
+        let k = sheet::test(sheet, way, i).0 as usize;
+        let digits = text::digits(label as u64);
+        self.referred(k).longer(3 + digits)
     }
-}
 
-// A reference to the entry that number i of the not, and or or at `at` names.
-fn named(sheet: &[u8], at: usize, i: usize, chains: &[u16], lengths: &[u64]) -> Measure
-    requires { HasNumber sheet.now at i × EntryKnown sheet.now at (length chains.now) × (length chains.now ≤ length lengths.now) }
-    ensures { result ≡ referred chains.now lengths.now (get_or (numbers (entry_at sheet.now at)) i 0) }
-{
-    let k = sheet::number(sheet, at, i).0 as usize;
-    referred(chains, lengths, k)
-}
-
-// Step i of a way: a slash, the label, and a reference to the test's entry in brackets.
-fn step_measure(sheet: &[u8], way: Steps, i: usize, chains: &[u16], lengths: &[u64]) -> Measure
-    requires { (i < way.count) × WayKnown sheet.now way (length chains.now) × (length chains.now ≤ length lengths.now) }
-    ensures { result ≡ step_measure chains.now lengths.now (step_in (steps_of sheet.now way) i) }
-{
-    let label = sheet::label(sheet, way, i);
-    let k = sheet::test(sheet, way, i).0 as usize;
-    let digits = text::digits(label);
-    longer(referred(chains, lengths, k), 3 + digits)
-}
-
-// The steps of a way, from the last to the first.
-fn steps_measure(sheet: &[u8], way: Steps, chains: &[u16], lengths: &[u64]) -> Measure
-    requires { WayKnown sheet.now way (length chains.now) × (length chains.now ≤ length lengths.now) }
-    ensures { result ≡ steps_measure chains.now lengths.now (steps_of sheet.now way) }
-{
-    let mut out = Measure {
-        chain: 0,
-        length: 0,
-    };
-    let mut left = way.count;
-    while 0 < left {
-        left -= 1;
-        let step = step_measure(sheet, way, left, chains, lengths);
-        out = beside(step, out);
-    }
-    out
-}
-
-// A way: a dot if it has no steps.
-fn way_measure(sheet: &[u8], way: Steps, chains: &[u16], lengths: &[u64]) -> Measure
-    requires { WayKnown sheet.now way (length chains.now) × (length chains.now ≤ length lengths.now) }
-    ensures { result ≡ way_measure chains.now lengths.now (steps_of sheet.now way) }
-{
-    let count = way.count;
-    if count == 0 {
-        return Measure {
+    // The steps of a way, from the last to the first.
+    fn steps(&self, sheet: &[u8], way: Steps) -> Measure
+        requires { WayKnown sheet.now way (length self.now.chains) }
+        ensures { result ≡ steps_measure self.now.chains self.now.lengths (steps_of sheet.now way) }
+    {
+        let mut out = Measure {
             chain: 0,
-            length: 1,
+            length: 0,
         };
+        for i in (0..way.count).rev() {
+            out = self.step(sheet, way, i).beside(out);
+        }
+        out
     }
-    steps_measure(sheet, way, chains, lengths)
-}
 
-// The true, not, and or or at `at`.
-fn plain_measure(sheet: &[u8], at: usize, chains: &[u16], lengths: &[u64]) -> Measure
-    requires { EntryKnown sheet.now at (length chains.now) × (length chains.now ≤ length lengths.now) × (kind_of (entry_at sheet.now at) < 4) }
-    ensures { result ≡ plain_measure chains.now lengths.now (entry_at sheet.now at) }
-{
-    let kind = sheet::kind(sheet, at);
-    if kind == sheet::KIND_TRUE {
-        return Measure {
-            chain: 0,
-            length: 3,
-        };
+    // A way: a dot if it has no steps.
+    fn way(&self, sheet: &[u8], way: Steps) -> Measure
+        requires { WayKnown sheet.now way (length self.now.chains) }
+        ensures { result ≡ way_measure self.now.chains self.now.lengths (steps_of sheet.now way) }
+    {
+        if way.count == 0 {
+            return Measure {
+                chain: 0,
+                length: 1,
+            };
+        }
+        self.steps(sheet, way)
     }
-    let a = named(sheet, at, 0, chains, lengths);
-    if kind == sheet::KIND_NOT {
-        return longer(a, 3);
-    }
-    let b = named(sheet, at, 1, chains, lengths);
-    longer(beside(a, b), 3)
-}
 
-// The way, same or differ at `at`.
-fn ways_measure(sheet: &[u8], at: usize, chains: &[u16], lengths: &[u64]) -> Measure
-    requires { EntryKnown sheet.now at (length chains.now) × (length chains.now ≤ length lengths.now) × (4 ≤ kind_of (entry_at sheet.now at)) }
-    ensures { result ≡ ways_measure chains.now lengths.now (entry_at sheet.now at) }
-{
-    let kind = sheet::kind(sheet, at);
-    let first = sheet::first_way(sheet, at);
-    let a = way_measure(sheet, first, chains, lengths);
-    if kind == sheet::KIND_WAY {
-        return longer(a, 2);
+    // The two ways of the same or differ at `at`.
+    fn ways(&self, sheet: &[u8], at: usize) -> Measure
+        requires { HasWay sheet.now at 5 × EntryKnown sheet.now at (length self.now.chains) }
+        ensures { result ≡ pair_measure self.now.chains self.now.lengths (entry_at sheet.now at) }
+    {
+        let first = self.way(sheet, sheet::first_way(sheet, at));
+        let second = self.way(sheet, sheet::second_way(sheet, at));
+        first.beside(second)
     }
-    let second = sheet::second_way(sheet, at);
-    let b = way_measure(sheet, second, chains, lengths);
-    if kind == sheet::KIND_SAME {
-        return longer(beside(a, b), 3);
-    }
-    longer(beside(a, b), 4)
-}
 
-// The entry at `at`, from the chains and lengths of the entries before it.
-fn entry_measure(sheet: &[u8], at: usize, chains: &[u16], lengths: &[u64]) -> Measure
-    requires { EntryKnown sheet.now at (length chains.now) × (length chains.now ≤ length lengths.now) }
-    ensures { result ≡ entry_measure chains.now lengths.now (entry_at sheet.now at) }
-{
-    let kind = sheet::kind(sheet, at);
-    if kind < sheet::KIND_WAY {
-        return plain_measure(sheet, at, chains, lengths);
+    // The entry at `at`, from the entries before it.
+    fn entry(&self, sheet: &[u8], at: usize) -> Measure
+        requires { EntryKnown sheet.now at (length self.now.chains) }
+        ensures { result ≡ entry_measure self.now.chains self.now.lengths (entry_at sheet.now at) }
+    {
+        match sheet::kind(sheet, at) {
+            Kind::True => Measure {
+                chain: 0,
+                length: 3,
+            },
+            Kind::Not => self.named(sheet, at, 0).longer(3),
+            Kind::And | Kind::Or => {
+                let first = self.named(sheet, at, 0);
+                let second = self.named(sheet, at, 1);
+                first.beside(second).longer(3)
+            }
+            Kind::Way => self.way(sheet, sheet::first_way(sheet, at)).longer(2),
+            Kind::Same => self.ways(sheet, at).longer(3),
+            Kind::Differ => self.ways(sheet, at).longer(4),
+        }
     }
-    ways_measure(sheet, at, chains, lengths)
-}
 
-// Lists the chains and lengths of the first `upto` entries of an accepted sheet, from the front.
-fn list_measures(sheet: &[u8], upto: usize, chains: &mut [u16], lengths: &mut [u64])
-    requires { EntriesFit sheet.now upto (length chains.old) × (length chains.old ≤ length lengths.old) }
-    ensures { Measured sheet.now upto chains.new lengths.new }
-{
-    let mut at = sheet::entry_start(sheet, Question(0));
-    let mut k = 0;
-    while k < upto {
-        let m = entry_measure(sheet, at, chains, lengths);
-        chains[k] = m.chain;
-        lengths[k] = m.length;
-        at = sheet::next_start(sheet, at);
-        k += 1;
+    // Lists the chains and lengths of the first `upto` entries of a sheet, from the front.
+    fn list(&mut self, sheet: Sheet<'_>, upto: usize)
+        requires { upto ≤ count_of sheet.bytes.now }
+        ensures { Measured sheet.entry.bytes.now upto self.new.chains self.new.lengths }
+    {
+        let mut at = sheet.entry_start(Question(0));
+        for k in 0..upto {
+            let m = self.entry(sheet.bytes, at);
+            self.chains[k] = m.chain;
+            self.lengths[k] = m.length;
+            at = sheet::next_start(sheet.bytes, at);
+        }
     }
 }
 
 // The longest chain and the length of the text of an entry's question, each up to its limit.
-pub fn measure_of(sheet: &[u8], question: Question) -> Measure
-    requires { (sheet_refusal sheet.now ≡ 0) × (question.0 < count_of sheet.now) }
-    ensures { result ≡ measured (question_of sheet.now question.0) }
+pub fn measure_of(sheet: Sheet<'_>, question: Question) -> Measure
+    requires { question.0 < count_of sheet.bytes.now }
+    ensures { result ≡ measured (question_of sheet.entry.bytes.now question.0) }
 {
-    let mut chains = [0u16; ENTRIES];
-    let mut lengths = [0u64; ENTRIES];
+    let mut known = Known {
+        chains: [0; ENTRIES],
+        lengths: [0; ENTRIES],
+    };
     let k = question.0 as usize;
-    list_measures(sheet, k + 1, &mut chains, &mut lengths);
+    known.list(sheet, k + 1);
     Measure {
-        chain: chains[k],
-        length: lengths[k],
+        chain: known.chains[k],
+        length: known.lengths[k],
     }
 }

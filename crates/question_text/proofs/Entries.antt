@@ -1,22 +1,24 @@
 -- The text of an entry by its kind, and what is known of an entry that is to be written.
 use mathlib.Core.List.{List, [], ◌∷◌, ◌++◌}
+use mathlib.Core.Logic.{◌⊎◌, inl, inr}
 use mathlib.Core.Path.{◌≡◌, refl, ap}
-use Prim.Native.Nat.{ℕ, ◌+◌, ◌*◌, ◌≤◌, ◌<◌}
+use Prim.Native.Nat.{ℕ, ◌≤◌, ◌<◌}
 use native.Mathlib.Omega.{arith}
-use lib.ListN.{get_or}
+use lib.ListN.{length, get_or}
 use Rattle.theory.specs.Graph.{same, differ}
 use Rattle.theory.specs.Expression.{NodeExpr}
-use Rattle.sheet.specs.Entry.{Entry, truth, negation, conjunction, disjunction, way, comparison, kind_of, first_way_lem, second_way, named, spell_way, spell, numbers, Below}
-use Rattle.sheet.specs.Sheet.{entry_at}
+use Rattle.sheet.specs.Entry.{Entry, truth, negation, conjunction, disjunction, way, comparison, kind_number, kind_of, first_way_lem, second_way, named, spell_way, spell, numbers, Below}
+use Rattle.sheet.specs.declared.kinds.Kind.{Kind}
+use Rattle.sheet.specs.declared.kinds.Kind.TheVariants as says
+use Rattle.sheet.specs.Sheet.{count_of, entry_at, entry_start, sheet_refusal}
 use Rattle.sheet.proofs.AcceptedLaws.{well_formed_entry, accepted_standing, accepted_question}
 use Rattle.sheet.specs.Reading.{Readable, HasNumber}
 use Rattle.sheet.proofs.ReadingLaws.{readable}
 use Rattle.sheet.proofs.KnownLaws.{below_at}
 use Rattle.text.specs.Text.{ascii}
 use Rattle.question_measure.specs.Text.{or_stay, steps_text, question_text, way_text}
-use Rattle.question_measure.specs.HoldsLaws.{holds_fewer}
 use Rattle.question_text.specs.Answer.{text_of}
-use Rattle.question_text.specs.Writing.{Started, Entered, junction_by, sign_by, questions_of}
+use Rattle.question_text.specs.Writing.{Started, EntryAt, junction_by, sign_by, questions_of}
 
 -- ---- the text of an entry, by its kind
 
@@ -74,34 +76,32 @@ module _ (qs : List NodeExpr) where
   text_ways (comparison same s s') h = refl
   text_ways (comparison differ s s') h = refl
 
+-- ---- the kinds of a same and a differ
+pub comparison_kinds : (k : Kind) → (k ≡ says.Same) ⊎ (k ≡ says.Differ) → 5 ≤ kind_number k
+comparison_kinds k (inl e) = let f : kind_number k ≡ 5 = ap kind_number e in omega arith
+comparison_kinds k (inr e) = let f : kind_number k ≡ 6 = ap kind_number e in omega arith
+
 -- ---- entry k, which starts at `start`
 
-pub started_at : {s starts : List ℕ} {n : ℕ} → Started s starts n → (m : ℕ) → m ≤ n → Started s starts m
-started_at o m h =
-    record {
-      good = o.good;
-      entries = let e = o.entries in omega arith;
-      listed = let e = o.listed in omega arith;
-      places = holds_fewer o.places m h;
-    }
+pub record Entered (s : List ℕ) (k start : ℕ) : Type 0 where
+  pub good : sheet_refusal s ≡ 0
+  pub below : k < count_of s
+  pub place : start ≡ entry_start s k
 
-module _ (s starts : List ℕ) (k start : ℕ) (o : Entered s starts k start) where
+pub entered : {s starts : List ℕ} {k start : ℕ} → Started s starts (length starts) → EntryAt s starts k start → Entered s k start
+entered o e = record { good = o.good; below = omega (arith, e.listed, o.entries); place = e.place }
+
+module _ (s : List ℕ) (k start : ℕ) (o : Entered s k start) where
   pub entered_readable : Readable s start
-  entered_readable = readable s k start o.started.good o.below o.place
+  entered_readable = readable s k start o.good o.below o.place
 
   pub entered_text : text_of s k ≡ question_text (spell (questions_of s) (entry_at s start))
-  entered_text = rw o.place (ap question_text (accepted_question s o.started.good k o.below))
+  entered_text = rw o.place (ap question_text (accepted_question s o.good k o.below))
 
   pub entered_earlier : Below k (numbers (entry_at s start))
-  entered_earlier = rw o.place (well_formed_entry (accepted_standing s o.started.good k o.below)).earlier
+  entered_earlier = rw o.place (well_formed_entry (accepted_standing s o.good k o.below)).earlier
 
 -- the entry that its number j names
-module _ (s starts : List ℕ) (k start i j : ℕ) (o : Entered s starts k start) (h : HasNumber s start j) (d : i ≡ get_or (numbers (entry_at s start)) j 0) where
+module _ (s : List ℕ) (k start i j : ℕ) (o : Entered s k start) (h : HasNumber s start j) (d : i ≡ get_or (numbers (entry_at s start)) j 0) where
   pub number_below : i < k
-  number_below = rw d (below_at k (numbers (entry_at s start)) j (entered_earlier s starts k start o) h.present)
-
-  pub number_started : Started s starts (i + 1)
-  number_started = started_at o.started (i + 1) (let l = number_below in omega arith)
-
-  pub number_falls : (t : ℕ) → k * 8 + 5 ≡ t → i * 8 + 6 < t
-  number_falls t e = let l = number_below in omega arith
+  number_below = rw d (below_at k (numbers (entry_at s start)) j (entered_earlier s k start o) h.present)

@@ -8,17 +8,14 @@ use Rattle.fields.specs.Runs.{PutBytes}
 use Rattle.fields.specs.RunLaws.{put_as, put_after, piece_fits, rest_fits}
 use Rattle.sheet.specs.Entry.{kind_of, numbers}
 use Rattle.sheet.specs.Sheet.{entry_at}
-use Rattle.sheet.specs.Reading.{Readable, HasNumber}
+use Rattle.sheet.specs.Reading.{HasNumber}
 use Rattle.sheet.proofs.ReadingLaws.{has_number}
 use Rattle.text.specs.Text.{ascii}
 use Rattle.question_text.specs.Answer.{text_of}
-use Rattle.question_text.specs.Writing.{Started, Entered, junction_by, questions_of, between}
-use Rattle.question_text.proofs.Entries.{text_true, text_not, text_two, started_at, entered_readable, entered_text}
+use Rattle.question_text.specs.Writing.{Started, EntryAt, junction_by, questions_of, between}
+use Rattle.question_text.proofs.Entries.{text_true, text_not, text_two, Entered, entered_readable, entered_text}
 
 -- ---- put_between
-pub earlier_started : (s starts : List ℕ) (i k : ℕ) → Started s starts k → i < k → Started s starts (i + 1)
-earlier_started s starts i k o h = started_at o (i + 1) (omega arith)
-
 module _ (room : List ℕ) (at a : ℕ) (text : List ℕ) (b : ℕ) where
   pub between_first : at + length (between a text b) ≤ length room → at + 1 ≤ length room
   between_first h = piece_fits room at (between a text b) (a ∷ []) (text ++ (b ∷ [])) refl h
@@ -38,39 +35,31 @@ module _ (room : List ℕ) (at a : ℕ) (text : List ℕ) (b : ℕ) where
       between_put exit next r = put_after p (put_after p' r)
 
 -- ---- put_question
-pub question_listed : (s starts : List ℕ) (k : ℕ) → Started s starts (k + 1) → k < length starts
-question_listed s starts k o = let l = o.listed in omega arith
+pub question_at : (s starts : List ℕ) (k start : ℕ) → Started s starts (length starts) → k < length starts → start ≡ get_or starts k 0 → EntryAt s starts k start
+question_at s starts k start o h d = record { listed = h; place = d ∙ o.places.each k h }
 
-module _ (s starts : List ℕ) (k start : ℕ) (o : Started s starts (k + 1)) (d : start ≡ get_or starts k 0) where
-  pub question_entered : Entered s starts k start
-  question_entered =
-      record { started = started_at o k (omega arith); below = let e = o.entries in omega arith; place = d ∙ o.places.each k (omega arith) }
+module _ (s : List ℕ) (k start : ℕ) (o : Entered s k start) (q : 0 ≡ kind_of (entry_at s start)) (room : List ℕ) (at : ℕ) where
+  true_text : text_of s k ≡ ascii "<.>"
+  true_text = entered_text s k start o ∙ text_true (questions_of s) (entry_at s start) (sym q)
 
-  pub question_readable : Readable s start
-  question_readable = entered_readable s starts k start question_entered
+  pub true_first : at + length (text_of s k) ≤ length room → at + 2 ≤ length room
+  true_first h = omega (arith, ap length true_text)
 
-  module _ (kind : ℕ) (q : kind ≡ kind_of (entry_at s start)) (z : kind ≡ 0) (room : List ℕ) (at : ℕ) where
-    true_text : text_of s k ≡ ascii "<.>"
-    true_text = entered_text s starts k start question_entered ∙ text_true (questions_of s) (entry_at s start) (sym q ∙ z)
+  module _ (mid : List ℕ) (to : ℕ) (p : PutBytes room at (60 ∷ 46 ∷ []) mid to) where
+    pub true_last : at + length (text_of s k) ≤ length room → to + 1 ≤ length mid
+    true_last h = rest_fits (text_of s k) (ascii "<.") (ascii ">") true_text h p
 
-    pub true_first : at + length (text_of s k) ≤ length room → at + 2 ≤ length room
-    true_first h = omega (arith, ap length true_text)
-
-    module _ (mid : List ℕ) (to : ℕ) (p : PutBytes room at (60 ∷ 46 ∷ []) mid to) where
-      pub true_last : at + length (text_of s k) ≤ length room → to + 1 ≤ length mid
-      true_last h = rest_fits (text_of s k) (ascii "<.") (ascii ">") true_text h p
-
-      pub true_put : (exit : List ℕ) (next : ℕ) → PutBytes mid to (62 ∷ []) exit next → PutBytes room at (text_of s k) exit next
-      true_put exit next r = put_as (sym true_text) (put_after p r)
+    pub true_put : (exit : List ℕ) (next : ℕ) → PutBytes mid to (62 ∷ []) exit next → PutBytes room at (text_of s k) exit next
+    true_put exit next r = put_as (sym true_text) (put_after p r)
 
 -- ---- put_not
-module _ (s starts : List ℕ) (k start : ℕ) (o : Entered s starts k start) (kd : kind_of (entry_at s start) ≡ 1) where
+module _ (s : List ℕ) (k start : ℕ) (o : Entered s k start) (kd : kind_of (entry_at s start) ≡ 1) where
   pub not_number : HasNumber s start 0
-  not_number = has_number (entered_readable s starts k start o) 0 (omega arith) (omega arith) (omega arith)
+  not_number = has_number (entered_readable s k start o) 0 (omega arith) (omega arith) (omega arith)
 
   module _ (i : ℕ) (d : i ≡ get_or (numbers (entry_at s start)) 0 0) (room : List ℕ) (at : ℕ) where
     not_text : text_of s k ≡ ascii "!" ++ between 40 (text_of s i) 41
-    not_text = entered_text s starts k start o ∙ text_not (questions_of s) (entry_at s start) kd ∙ ap (λ i. ascii "!(" ++ (text_of s i ++ ascii ")")) (sym d)
+    not_text = entered_text s k start o ∙ text_not (questions_of s) (entry_at s start) kd ∙ ap (λ i. ascii "!(" ++ (text_of s i ++ ascii ")")) (sym d)
 
     pub not_first : at + length (text_of s k) ≤ length room → at + 1 ≤ length room
     not_first h = piece_fits room at (text_of s k) (ascii "!") (between 40 (text_of s i) 41) not_text h
@@ -83,12 +72,12 @@ module _ (s starts : List ℕ) (k start : ℕ) (o : Entered s starts k start) (k
       not_put exit next r = put_as (sym not_text) (put_after p r)
 
 -- ---- put_two
-module _ (s starts : List ℕ) (k start kind : ℕ) (o : Entered s starts k start) (q : kind ≡ kind_of (entry_at s start)) (b : 2 ≤ kind) (u : kind < 4) where
+module _ (s : List ℕ) (k start kind : ℕ) (o : Entered s k start) (q : kind ≡ kind_of (entry_at s start)) (b : 2 ≤ kind) (u : kind < 4) where
   pub two-first : HasNumber s start 0
-  two-first = has_number (entered_readable s starts k start o) 0 (omega arith) (omega arith) (omega arith)
+  two-first = has_number (entered_readable s k start o) 0 (omega arith) (omega arith) (omega arith)
 
   pub two_second : HasNumber s start 1
-  two_second = has_number (entered_readable s starts k start o) 1 (omega arith) (omega arith) (omega arith)
+  two_second = has_number (entered_readable s k start o) 1 (omega arith) (omega arith) (omega arith)
 
   -- the second part, and the end
   rest : List ℕ
@@ -98,7 +87,7 @@ module _ (s starts : List ℕ) (k start kind : ℕ) (o : Entered s starts k star
     two_text : text_of s k ≡ between 40 (text_of s i) byte ++ rest
     unfolding rest
     two_text =
-        entered_text s starts k start o ∙ text_two (questions_of s) (entry_at s start) (omega arith) (omega arith)
+        entered_text s k start o ∙ text_two (questions_of s) (entry_at s start) (omega arith) (omega arith)
         ∙ rw (d, e, q) (sym (ap (λ l. 40 ∷ l) (append_assoc (text_of s (get_or (numbers (entry_at s start)) 0 0)) _ _)))
 
     pub two_opens : at + length (text_of s k) ≤ length room → at + length (between 40 (text_of s i) byte) ≤ length room

@@ -20,16 +20,16 @@ use Rattle.sheet.specs.declared.Steps.{Steps}
 use Rattle.text.specs.Text.{ascii, decimal}
 use Rattle.question_measure.specs.Text.{sign_text, or_stay, steps_text, question_text, way_text}
 use Rattle.question_text.specs.Answer.{text_of}
-use Rattle.question_text.specs.Writing.{Entered, WayOf, sign_by, questions_of, label_text, between, steps_text_of, way_text_of, second_text}
-use Rattle.question_text.proofs.Entries.{text_way, text_ways, entered_readable, entered_text, entered_earlier}
+use Rattle.question_text.specs.Writing.{WayOf, sign_by, questions_of, label_text, between, steps_text_of, way_text_of, second_text}
+use Rattle.question_text.proofs.Entries.{text_way, text_ways, Entered, entered_readable, entered_text, entered_earlier}
 
 -- ---- the ways of entry k
-module _ (s starts : List ℕ) (k start : ℕ) (o : Entered s starts k start) where
+module _ (s starts : List ℕ) (k start : ℕ) (o : Entered s k start) (l : k < length starts) where
   earlier : Below k (tests (first_way_lem (entry_at s start))) × Below k (tests (second_way (entry_at s start)))
-  earlier = ways-below k (entry_at s start) (entered_earlier s starts k start o)
+  earlier = ways-below k (entry_at s start) (entered_earlier s k start o)
 
   way_of : (p w : Steps) (ss : List Step) → Reads s p ss w → Below k (tests ss) → WayOf s starts k w
-  way_of p w ss r e = record { started = o.started; inside = r.inside; earlier = rw r.steps e }
+  way_of p w ss r e = record { listed = omega arith; inside = r.inside; earlier = rw r.steps e }
 
   module _ (p w : Steps) where
     pub first-way_of : Reads s p (first_way_lem (entry_at s start)) w → WayOf s starts k w
@@ -39,13 +39,13 @@ module _ (s starts : List ℕ) (k start : ℕ) (o : Entered s starts k start) wh
     second_way_of f = way_of p w (second_way (entry_at s start)) f earlier.1
 
 -- ---- put_exists
-module _ (s starts : List ℕ) (k start : ℕ) (o : Entered s starts k start) (q : kind_of (entry_at s start) ≡ 4) where
+module _ (s : List ℕ) (k start : ℕ) (o : Entered s k start) (q : kind_of (entry_at s start) ≡ 4) where
   pub exists_way : HasWay s start 4
-  exists_way = record { entry = entered_readable s starts k start o; kind = omega arith }
+  exists_way = record { entry = entered_readable s k start o; kind = omega arith }
 
   module _ (p w : Steps) (f : Reads s p (first_way_lem (entry_at s start)) w) (room : List ℕ) (at : ℕ) where
     exists_text : text_of s k ≡ ascii "<" ++ (way_text_of s w ++ ascii ">")
-    exists_text = entered_text s starts k start o ∙ text_way (questions_of s) (entry_at s start) q ∙ rw f.steps
+    exists_text = entered_text s k start o ∙ text_way (questions_of s) (entry_at s start) q ∙ rw f.steps
 
     pub exists_opens : at + length (text_of s k) ≤ length room → at + 1 ≤ length room
     exists_opens h = piece_fits room at (text_of s k) (ascii "<") (way_text_of s w ++ ascii ">") exists_text h
@@ -65,13 +65,13 @@ module _ (s starts : List ℕ) (k start : ℕ) (o : Entered s starts k start) (q
         exists_put exit next x = put_as (sym exists_text) (put_after r (put_after r' x))
 
 -- ---- put_comparison
-module _ (s starts : List ℕ) (k start kind : ℕ) (o : Entered s starts k start) (q : kind ≡ kind_of (entry_at s start)) (b : 5 ≤ kind) where
+module _ (s : List ℕ) (k start kind : ℕ) (o : Entered s k start) (q : kind ≡ kind_of (entry_at s start)) (b : 5 ≤ kind) where
   pub compared-first : HasWay s start 4
-  compared-first = record { entry = entered_readable s starts k start o; kind = omega arith }
+  compared-first = record { entry = entered_readable s k start o; kind = omega arith }
 
   module _ (p w : Steps) (f : Reads s p (first_way_lem (entry_at s start)) w) (room : List ℕ) (at : ℕ) where
     compared_text : text_of s k ≡ ascii "<" ++ (way_text_of s w ++ second_text s kind start)
-    compared_text = entered_text s starts k start o ∙ text_ways (questions_of s) (entry_at s start) (omega arith) ∙ rw (f.steps, q)
+    compared_text = entered_text s k start o ∙ text_ways (questions_of s) (entry_at s start) (omega arith) ∙ rw (f.steps, q)
 
     pub compared_opens : at + length (text_of s k) ≤ length room → at + 1 ≤ length room
     compared_opens h = piece_fits room at (text_of s k) (ascii "<") (way_text_of s w ++ second_text s kind start) compared_text h
@@ -99,8 +99,8 @@ sign_some kind = go (eqb kind 5)
     go true = omega arith
     go false = omega arith
 
-pub compared_second : (s starts : List ℕ) (k start kind : ℕ) → Entered s starts k start → kind ≡ kind_of (entry_at s start) → 5 ≤ kind → HasWay s start 5
-compared_second s starts k start kind o q b = record { entry = entered_readable s starts k start o; kind = omega arith }
+pub compared_second : (s : List ℕ) (k start kind : ℕ) → Entered s k start → kind ≡ kind_of (entry_at s start) → 5 ≤ kind → HasWay s start 5
+compared_second s k start kind o q b = record { entry = entered_readable s k start o; kind = omega arith }
 
 module _ (s : List ℕ) (start kind : ℕ) (p w : Steps) (f : Reads s p (second_way (entry_at s start)) w) (room : List ℕ) (at : ℕ) where
   second-text : second_text s kind start ≡ sign_by kind ++ (way_text_of s w ++ ascii ">")
@@ -166,12 +166,10 @@ pub record Going (s room₀ : List ℕ) (at : ℕ) (text room : List ℕ) (next 
 pub going_start : (s room : List ℕ) (at : ℕ) (w : Steps) → Going s room at (steps_text_of s w) room at w
 going_start s room at w = record { done = []; split = refl; put = put_none room at }
 
-pub going_end : (s room₀ : List ℕ) (at : ℕ) (text room : List ℕ) (next v from left : ℕ) → left ≤ 0 → Going s room₀ at text room next (run v from left)
+pub going_end : (s room₀ : List ℕ) (at : ℕ) (text room : List ℕ) (next v from left : ℕ) → left ≡ 0 → Going s room₀ at text room next (run v from left)
     → PutBytes room₀ at text room next
 unfolding steps_at spell_way steps_text
-going_end s room₀ at text room next v from left h g =
-    let e : left ≡ 0 = omega arith in
-    put_as (sym (g.split ∙ ap (λ n. g.done ++ steps_text_of s (run v from n)) e ∙ append-nil g.done)) g.put
+going_end s room₀ at text room next v from left e g = put_as (sym (g.split ∙ ap (λ n. g.done ++ steps_text_of s (run v from n)) e ∙ append-nil g.done)) g.put
 
 -- a step's text stands before that of the others
 step-first : (qs : List NodeExpr) (x : Step) (ss : List Step) → steps_text (spell_way qs (x ∷ ss)) ≡ steps_text (spell_way qs (x ∷ [])) ++ steps_text (spell_way qs ss)
@@ -198,7 +196,7 @@ module _ (s starts : List ℕ) (k v from left : ℕ) (o : WayOf s starts k (run 
     pub others-way : WayOf s starts k (run v (from + size) (left - 1))
     others-way =
         record {
-          started = o.started;
+          listed = o.listed;
           inside = let i = o.inside in let e : left ≡ suc (left - 1) = omega arith in omega (arith, ap (λ n. step_width v * n) e);
           earlier = split_earlier.1;
         }
@@ -220,7 +218,7 @@ module _ (s starts : List ℕ) (k v from left : ℕ) (o : WayOf s starts k (run 
   unfolding steps_at tests Below
   one_way =
       record {
-        started = o.started;
+        listed = o.listed;
         inside = let i = o.inside in omega (arith, mul-le-mul_left (step_width v) h);
         earlier = ((split_earlier (step_width v * 1) refl).0, tt);
       }

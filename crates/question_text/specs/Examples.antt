@@ -1,5 +1,8 @@
 -- Worked texts, chains and answers, computed by the definitions.
-use Rattle.std.specs.Prelude.{List, [], ◌∷◌, map, ◌≡◌, refl, ℕ, zero, suc, ◌+◌, length}
+use Rattle.std.specs.Prelude.{List, [], ◌∷◌, map, ◌≡◌, refl, ℕ, zero, suc, ◌+◌, length, Ok, Err}
+use Rattle.outcome.specs.Refused.{named, of_part}
+use Rattle.outcome.specs.declared.Refusal.TheVariants as says
+use Rattle.outcome.specs.declared.Part.TheVariants as part
 use Rattle.fields.specs.Fields.{field}
 use Rattle.fields.specs.Label.{label_width}
 use Rattle.theory.specs.Graph.{same, differ}
@@ -8,8 +11,7 @@ use Rattle.sheet.specs.Entry.{Step, Entry, truth, negation, conjunction, disjunc
 use Rattle.sheet.specs.Sheet.{entry_of, steps_at, entries_at, head_refusal, step_counts, too_large, required, numbers_refusal, body_refusal, kind_refusal, entry_refusal, entries_refusal, sheet_refusal}
 use Rattle.text.specs.Text.{ascii, numeral}
 use Rattle.question_measure.specs.Text.{sign_text, or_stay, steps_text, question_text, way_chain, chain}
-use Rattle.question_text.specs.Answer.{text_of, question_answer, length_answer, with_room, write_answer, left_by, write_leaves}
-use Rattle.question_text.specs.declared.TextAnswer.TheVariants.{Length, SheetRefused, Refused}
+use Rattle.question_text.specs.Answer.{Answer, refused, text_of, question_answer, length_answer, with_room, write_answer, left_by, write_leaves}
 
 -- A step.
 abbrev go : ℕ → ℕ → Step
@@ -39,7 +41,7 @@ nots zero = always
 nots (suc n) = neg (nots n)
 
 -- "28, a chain of more than 1,024 references": each not is one.
-pub limits : question_answer (nots 1024) ∷ question_answer (nots 1025) ∷ [] ≡ Length 3075 ∷ Refused 28 ∷ []
+pub limits : question_answer (nots 1024) ∷ question_answer (nots 1025) ∷ [] ≡ Ok 3075 ∷ refused says.LongChain ∷ []
 unfolding nots question_answer chain question_text way_chain steps_text or_stay
 limits = refl
 
@@ -49,13 +51,13 @@ sheet_two = 0 ∷ 0 ∷ 0 ∷ 14 ∷ 1 ∷ 1 ∷ 0 ∷ 2 ∷ 1 ∷ 0 ∷ 3 ∷ 1
 
 -- The lengths of its two texts, an entry that it does not have, and a sheet of no bytes; then writing into room that serves, and into too little.
 pub answers : length_answer sheet_two 0 ∷ length_answer sheet_two 1 ∷ length_answer sheet_two 2 ∷ length_answer [] 0 ∷ write_answer sheet_two 1 6 ∷ write_answer sheet_two 1 5 ∷ []
-    ≡ Length 3 ∷ Length 6 ∷ Refused 25 ∷ SheetRefused 1 ∷ Length 6 ∷ Refused 30 ∷ []
-unfolding length_answer with_room question_answer chain way_chain question_text steps_text or_stay expressions extend spell spell_way sheet_refusal head_refusal entries_refusal entry_refusal kind_refusal body_refusal numbers_refusal required too_large step_counts entry_of entry_with numbers field entries_at steps_at
+    ≡ Ok 3 ∷ Ok 6 ∷ refused says.NoEntry ∷ Err (of_part part.Sheet says.FewBytes) ∷ Ok 6 ∷ refused says.TextRoom ∷ []
+unfolding named length_answer with_room question_answer chain way_chain question_text steps_text or_stay expressions extend spell spell_way sheet_refusal head_refusal entries_refusal entry_refusal kind_refusal body_refusal numbers_refusal required too_large step_counts entry_of entry_with numbers field entries_at steps_at
 answers = refl
 
 -- "Bytes after the text stay", and a refusal leaves the room.
 pub rooms : write_leaves sheet_two 0 (7 ∷ 7 ∷ 7 ∷ 7 ∷ []) ∷ write_leaves sheet_two 1 (7 ∷ 7 ∷ []) ∷ [] ≡ (60 ∷ 46 ∷ 62 ∷ 7 ∷ []) ∷ (7 ∷ 7 ∷ []) ∷ []
-unfolding left_by length_answer with_room question_answer chain way_chain question_text steps_text or_stay expressions extend spell spell_way sheet_refusal head_refusal entries_refusal entry_refusal kind_refusal body_refusal numbers_refusal required too_large step_counts entry_of entry_with numbers field entries_at steps_at
+unfolding named left_by length_answer with_room question_answer chain way_chain question_text steps_text or_stay expressions extend spell spell_way sheet_refusal head_refusal entries_refusal entry_refusal kind_refusal body_refusal numbers_refusal required too_large step_counts entry_of entry_with numbers field entries_at steps_at
 rooms = refl
 
 -- A sheet of two entries: true, and the way of one step, of the bytes given.
@@ -76,6 +78,6 @@ labels = refl
 
 -- The lengths, in each version: a step of the other has a byte too many or too few.
 pub versions : length_answer (sheet_way 1 narrow) 1 ∷ length_answer (sheet_way 1 wide) 1 ∷ length_answer (sheet_way 2 narrow) 1 ∷ length_answer (sheet_way 2 wide) 1 ∷ []
-    ≡ Length 11 ∷ SheetRefused 14 ∷ SheetRefused 14 ∷ Length 13 ∷ []
-unfolding length_answer question_answer chain way_chain question_text steps_text or_stay numeral expressions extend spell spell_way sheet_refusal head_refusal entries_refusal entry_refusal kind_refusal body_refusal numbers_refusal required too_large step_counts entry_of entry_with numbers tests field label_width entries_at steps_at
+    ≡ Ok 11 ∷ Err (of_part part.Sheet says.BodyBytes) ∷ Err (of_part part.Sheet says.BodyBytes) ∷ Ok 13 ∷ []
+unfolding named length_answer question_answer chain way_chain question_text steps_text or_stay numeral expressions extend spell spell_way sheet_refusal head_refusal entries_refusal entry_refusal kind_refusal body_refusal numbers_refusal required too_large step_counts entry_of entry_with numbers tests field label_width entries_at steps_at
 versions = refl

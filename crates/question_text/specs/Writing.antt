@@ -29,15 +29,14 @@ sign_by kind = cond (eqb kind 5) (sign_text same) (sign_text differ)
 abbrev pub questions_of : List ℕ → List NodeExpr
 questions_of s = expressions (entries_of s)
 
--- Entry k, which starts at `start`.
-pub record Entered (s starts : List ℕ) (k start : ℕ) : Type 0 where
-  pub started : Started s starts k
-  pub below : k < count_of s
+-- Entry k, which starts at `start`. The list says where it starts.
+pub record EntryAt (s starts : List ℕ) (k start : ℕ) : Type 0 where
+  pub listed : k < length starts
   pub place : start ≡ entry_start s k
 
--- The steps of a way of entry k.
+-- The steps of a way of entry k. The list says where the entries before it start.
 pub record WayOf (s starts : List ℕ) (k : ℕ) (w : Steps) : Type 0 where
-  pub started : Started s starts k
+  pub listed : k ≤ length starts
   pub inside : w.start + step_width w.version * w.count ≤ length s
   pub earlier : Below k (tests (steps_of s w))
 

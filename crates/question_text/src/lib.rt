@@ -4,23 +4,18 @@
 ghost use Rattle.std.specs.Prelude.{[], ◌∷◌, ◌++◌, ◌≡◌, ◌+◌, ◌≤◌, ◌<◌, length, get_or, drop};
 ghost use Rattle.outcome.specs.Outcome.{code};
 ghost use Rattle.fields.specs.Runs.{PutBytes};
-ghost use Rattle.sheet.specs.Entry.{kind_of, step_in, numbers};
+ghost use Rattle.sheet.specs.Entry.{kind_number, kind_of, step_in, numbers};
 ghost use Rattle.sheet.specs.Sheet.{count_of, entry_at, question_of, sheet_refusal};
-ghost use Rattle.sheet.specs.Reading.{HasNumber, HasStep, steps_of};
-ghost use Rattle.sheet.specs.Known.{EntriesFit};
-ghost use Rattle.question_text.specs.Writing.{label_text, junction_by, sign_by, Started, Entered, WayOf, between, steps_text_of, way_text_of, second_text};
+ghost use Rattle.sheet.specs.Reading.{Readable, HasNumber, HasStep, steps_of};
+ghost use Rattle.question_text.specs.Writing.{label_text, junction_by, sign_by, Started, EntryAt, WayOf, between, steps_text_of, way_text_of, second_text};
 ghost use Rattle.question_text.specs.Answer.{text_of, question_answer, length_answer, text_outcome, IsWrite, IsWriteCode};
 
-use question_measure::{MOST_CHAIN, MOST_LENGTH};
-use sheet::{Question, SheetAnswer, Steps};
+mod source;
 
-// What both operations answer: the length of the text, the refusal of the sheet, or 25, 28, 29 or 30.
-#[derive(Clone, Copy)]
-pub enum TextAnswer {
-    Length(u32),
-    SheetRefused(u8),
-    Refused(u8),
-}
+use outcome::{Part, Refusal, Refused};
+use question_measure::{MOST_CHAIN, MOST_LENGTH};
+use sheet::{Kind, Question, Sheet, Steps};
+use source::Source;
 
 // The most entries of a sheet.
 const ENTRIES: usize = sheet::MOST_ENTRIES as usize;
@@ -51,26 +46,24 @@ fn labelled(sheet: &[u8], way: Steps, i: usize) -> u64
     sheet::label(sheet, way, i) as u64
 }
 
-// Lists where the first n entries of an accepted sheet start.
-fn list_starts(sheet: &[u8], n: usize, starts: &mut [u32])
-    requires { EntriesFit sheet.now n (length starts.old) }
-    ensures { Started sheet.now starts.new n }
+// The byte where an entry starts, in four bytes: an accepted sheet is shorter than its length field can say.
+fn start_of(sheet: &[u8], at: usize) -> u32
+    requires { (sheet_refusal sheet.now ≡ 0) × Readable sheet.now at }
+    ensures { result ≡ at }
 {
-    let mut at = sheet::entry_start(sheet, Question(0));
-    let mut k = 0;
-    while k < n {
-        starts[k] = at as u32;
-        at = sheet::next_start(sheet, at);
-        k += 1;
-    }
+    at as u32
 }
 
-// Where entry k starts.
-fn start_of(starts: &[u32], k: usize) -> usize
-    requires { k < length starts.now }
-    ensures { result ≡ get_or starts.now k 0 }
+// Lists where the first entries of a sheet start, one for each place of the list.
+fn list_starts(sheet: Sheet<'_>, starts: &mut [u32])
+    requires { length starts.old ≤ count_of sheet.bytes.now }
+    ensures { Started sheet.entry.bytes.now starts.new (length starts.new) }
 {
-    starts[k] as usize
+    let mut at = sheet.entry_start(Question(0));
+    for start in starts.iter_mut() {
+        *start = start_of(sheet.bytes, at);
+        at = sheet::next_start(sheet.bytes, at);
+    }
 }
 
 // ---- the small pieces
@@ -93,26 +86,25 @@ fn put_label(room: &mut [u8], at: usize, label: u64) -> usize
     text::put_number(room, next, label)
 }
 
-// The byte between the parts of an and (kind 2) or an or (kind 3).
-fn junction(kind: u8) -> u8
-    ensures { result ≡ junction_by kind }
+// The byte between the parts of an and or an or.
+fn junction(kind: Kind) -> u8
+    ensures { result ≡ junction_by (kind_number kind) }
 {
-    if kind == sheet::KIND_AND {
-        return b'&';
+    match kind {
+        Kind::And => b'&',
+        _ => b'|',
     }
-    b'|'
 }
 
-// Writes the sign between the ways of a same (kind 5) or a differ (kind 6) at `at`, and gives the place after it. (There is room for either: a way
-// follows.)
-fn put_sign(room: &mut [u8], at: usize, kind: u8) -> usize
+// Writes the sign between the ways of a same or a differ at `at`, and gives the place after it. (There is room for either: a way follows.)
+fn put_sign(room: &mut [u8], at: usize, kind: Kind) -> usize
     requires { at + 2 ≤ length room.old }
-    ensures { PutBytes room.old at (sign_by kind) room.new result }
+    ensures { PutBytes room.old at (sign_by (kind_number kind)) room.new result }
 {
-    if kind == sheet::KIND_SAME {
-        return text::put_byte(room, at, b'=');
+    match kind {
+        Kind::Same => text::put_byte(room, at, b'='),
+        _ => put_both(room, at, b'!', b'='),
     }
-    put_both(room, at, b'!', b'=')
 }
 
 // ---- the writers of questions and ways call each other: the entry's number falls from a question to its parts and to the tests of its ways, and the
@@ -120,33 +112,28 @@ fn put_sign(room: &mut [u8], at: usize, kind: u8) -> usize
 
 // Writes the question of entry k at `at`, and gives the place after it.
 #[cycle(writers)]
-fn put_question(sheet: &[u8], starts: &[u32], k: usize, room: &mut [u8], at: usize) -> usize
-    requires { Started sheet.now starts.now (k + 1) × (at + length (text_of sheet.now k) ≤ length room.old) }
-    ensures { PutBytes room.old at (text_of sheet.now k) room.new result }
+fn put_question(source: &Source<'_>, k: usize, room: &mut [u8], at: usize) -> usize
+    requires { (k < length source.now.starts.now) × (at + length (text_of source.now.sheet.now k) ≤ length room.old) }
+    ensures { PutBytes room.old at (text_of source.now.sheet.now k) room.new result }
 {
-    let start = start_of(starts, k);
-    let kind = sheet::kind(sheet, start);
-    if kind == sheet::KIND_TRUE {
-        let next = put_both(room, at, b'<', b'.');
-        return text::put_byte(room, next, b'>');
+    let start = source.starts[k] as usize;
+    let kind = sheet::kind(source.sheet, start);
+    match kind {
+        Kind::True => {
+            let next = put_both(room, at, b'<', b'.');
+            text::put_byte(room, next, b'>')
+        }
+        Kind::Not => put_not(source, k, start, room, at),
+        Kind::And | Kind::Or => put_two(source, k, start, kind, room, at),
+        Kind::Way => put_exists(source, k, start, room, at),
+        Kind::Same | Kind::Differ => put_comparison(source, k, start, kind, room, at),
     }
-    if kind == sheet::KIND_NOT {
-        return put_not(sheet, starts, k, start, room, at);
-    }
-    if kind < sheet::KIND_WAY {
-        return put_two(sheet, starts, k, start, kind, room, at);
-    }
-    if kind == sheet::KIND_WAY {
-        return put_exists(sheet, starts, k, start, room, at);
-    }
-    put_comparison(sheet, starts, k, start, kind, room, at)
 }
 
 // Writes a byte, the question of the entry i before k, and a byte.
 #[cycle(writers)]
 fn put_between(
-    sheet: &[u8],
-    starts: &[u32],
+    source: &Source<'_>,
     k: usize,
     i: usize,
     before: u8,
@@ -154,242 +141,200 @@ fn put_between(
     room: &mut [u8],
     at: usize,
 ) -> usize
-    requires { Started sheet.now starts.now k × (i < k) × (at + length (between before (text_of sheet.now i) after) ≤ length room.old) }
-    ensures { PutBytes room.old at (between before (text_of sheet.now i) after) room.new result }
+    requires { (k ≤ length source.now.starts.now) × (i < k) × (at + length (between before (text_of source.now.sheet.now i) after) ≤ length room.old) }
+    ensures { PutBytes room.old at (between before (text_of source.now.sheet.now i) after) room.new result }
 {
     let next = text::put_byte(room, at, before);
-    let next = put_question(sheet, starts, i, room, next);
+    let next = put_question(source, i, room, next);
     text::put_byte(room, next, after)
 }
 
 // Writes the not of entry k, which starts at `start`.
 #[cycle(writers)]
-fn put_not(
-    sheet: &[u8],
-    starts: &[u32],
-    k: usize,
-    start: usize,
-    room: &mut [u8],
-    at: usize,
-) -> usize
-    requires { Entered sheet.now starts.now k start × (kind_of (entry_at sheet.now start) ≡ 1) × (at + length (text_of sheet.now k) ≤ length room.old) }
-    ensures { PutBytes room.old at (text_of sheet.now k) room.new result }
+fn put_not(source: &Source<'_>, k: usize, start: usize, room: &mut [u8], at: usize) -> usize
+    requires { EntryAt source.now.sheet.now source.now.starts.now k start × (kind_of (entry_at source.now.sheet.now start) ≡ 1) × (at + length (text_of source.now.sheet.now k) ≤ length room.old) }
+    ensures { PutBytes room.old at (text_of source.now.sheet.now k) room.new result }
 {
-    let i = part(sheet, start, 0);
+    let i = part(source.sheet, start, 0);
     let next = text::put_byte(room, at, b'!');
-    put_between(sheet, starts, k, i, b'(', b')', room, next)
+    put_between(source, k, i, b'(', b')', room, next)
 }
 
 // Writes the and or or of entry k.
 #[cycle(writers)]
 fn put_two(
-    sheet: &[u8],
-    starts: &[u32],
+    source: &Source<'_>,
     k: usize,
     start: usize,
-    kind: u8,
+    kind: Kind,
     room: &mut [u8],
     at: usize,
 ) -> usize
-    requires { Entered sheet.now starts.now k start × (kind ≡ kind_of (entry_at sheet.now start)) × (2 ≤ kind) × (kind < 4) × (at + length (text_of sheet.now k) ≤ length room.old) }
-    ensures { PutBytes room.old at (text_of sheet.now k) room.new result }
+    requires { EntryAt source.now.sheet.now source.now.starts.now k start × (kind_number kind ≡ kind_of (entry_at source.now.sheet.now start)) × (2 ≤ kind_number kind) × (kind_number kind < 4) × (at + length (text_of source.now.sheet.now k) ≤ length room.old) }
+    ensures { PutBytes room.old at (text_of source.now.sheet.now k) room.new result }
 {
-    let i = part(sheet, start, 0);
-    let next = put_between(sheet, starts, k, i, b'(', junction(kind), room, at);
-    let j = part(sheet, start, 1);
-    let next = put_question(sheet, starts, j, room, next);
+    let i = part(source.sheet, start, 0);
+    let next = put_between(source, k, i, b'(', junction(kind), room, at);
+    let j = part(source.sheet, start, 1);
+    let next = put_question(source, j, room, next);
     text::put_byte(room, next, b')')
 }
 
 // Writes the way of entry k.
 #[cycle(writers)]
-fn put_exists(
-    sheet: &[u8],
-    starts: &[u32],
-    k: usize,
-    start: usize,
-    room: &mut [u8],
-    at: usize,
-) -> usize
-    requires { Entered sheet.now starts.now k start × (kind_of (entry_at sheet.now start) ≡ 4) × (at + length (text_of sheet.now k) ≤ length room.old) }
-    ensures { PutBytes room.old at (text_of sheet.now k) room.new result }
+fn put_exists(source: &Source<'_>, k: usize, start: usize, room: &mut [u8], at: usize) -> usize
+    requires { EntryAt source.now.sheet.now source.now.starts.now k start × (kind_of (entry_at source.now.sheet.now start) ≡ 4) × (at + length (text_of source.now.sheet.now k) ≤ length room.old) }
+    ensures { PutBytes room.old at (text_of source.now.sheet.now k) room.new result }
 {
-    let way = sheet::first_way(sheet, start);
+    let way = sheet::first_way(source.sheet, start);
     let next = text::put_byte(room, at, b'<');
-    let next = put_way(sheet, starts, k, way, room, next);
+    let next = put_way(source, k, way, room, next);
     text::put_byte(room, next, b'>')
 }
 
-// Writes the same (kind 5) or differ (kind 6) of entry k.
+// Writes the same or differ of entry k.
 #[cycle(writers)]
 fn put_comparison(
-    sheet: &[u8],
-    starts: &[u32],
+    source: &Source<'_>,
     k: usize,
     start: usize,
-    kind: u8,
+    kind: Kind,
     room: &mut [u8],
     at: usize,
 ) -> usize
-    requires { Entered sheet.now starts.now k start × (kind ≡ kind_of (entry_at sheet.now start)) × (5 ≤ kind) × (at + length (text_of sheet.now k) ≤ length room.old) }
-    ensures { PutBytes room.old at (text_of sheet.now k) room.new result }
+    requires { EntryAt source.now.sheet.now source.now.starts.now k start × (kind_number kind ≡ kind_of (entry_at source.now.sheet.now start)) × (5 ≤ kind_number kind) × (at + length (text_of source.now.sheet.now k) ≤ length room.old) }
+    ensures { PutBytes room.old at (text_of source.now.sheet.now k) room.new result }
 {
-    let first = sheet::first_way(sheet, start);
+    let first = sheet::first_way(source.sheet, start);
     let next = text::put_byte(room, at, b'<');
-    let next = put_way(sheet, starts, k, first, room, next);
-    put_second(sheet, starts, k, start, kind, room, next)
+    let next = put_way(source, k, first, room, next);
+    put_second(source, k, start, kind, room, next)
 }
 
-// Writes the sign of the same (kind 5) or differ (kind 6) of entry k, its second way, and its end. (The way is read here, so that it need not be kept
+// Writes the sign of the same or differ of entry k, its second way, and its end. (The way is read here, so that it need not be kept
 // while the first is written.)
 #[cycle(writers)]
 fn put_second(
-    sheet: &[u8],
-    starts: &[u32],
+    source: &Source<'_>,
     k: usize,
     start: usize,
-    kind: u8,
+    kind: Kind,
     room: &mut [u8],
     at: usize,
 ) -> usize
-    requires { Entered sheet.now starts.now k start × (kind ≡ kind_of (entry_at sheet.now start)) × (5 ≤ kind) × (at + length (second_text sheet.now kind start) ≤ length room.old) }
-    ensures { PutBytes room.old at (second_text sheet.now kind start) room.new result }
+    requires { EntryAt source.now.sheet.now source.now.starts.now k start × (kind_number kind ≡ kind_of (entry_at source.now.sheet.now start)) × (5 ≤ kind_number kind) × (at + length (second_text source.now.sheet.now (kind_number kind) start) ≤ length room.old) }
+    ensures { PutBytes room.old at (second_text source.now.sheet.now (kind_number kind) start) room.new result }
 {
-    let way = sheet::second_way(sheet, start);
+    let way = sheet::second_way(source.sheet, start);
     let next = put_sign(room, at, kind);
-    let next = put_way(sheet, starts, k, way, room, next);
+    let next = put_way(source, k, way, room, next);
     text::put_byte(room, next, b'>')
 }
 
 // Writes a way of entry k: a dot, or its steps.
 #[cycle(writers)]
-fn put_way(sheet: &[u8], starts: &[u32], k: usize, way: Steps, room: &mut [u8], at: usize) -> usize
-    requires { WayOf sheet.now starts.now k way × (at + length (way_text_of sheet.now way) ≤ length room.old) }
-    ensures { PutBytes room.old at (way_text_of sheet.now way) room.new result }
+fn put_way(source: &Source<'_>, k: usize, way: Steps, room: &mut [u8], at: usize) -> usize
+    requires { WayOf source.now.sheet.now source.now.starts.now k way × (at + length (way_text_of source.now.sheet.now way) ≤ length room.old) }
+    ensures { PutBytes room.old at (way_text_of source.now.sheet.now way) room.new result }
 {
-    let count = way.count;
-    if count == 0 {
+    if way.count == 0 {
         return text::put_byte(room, at, b'.');
     }
-    put_steps(sheet, starts, k, way, room, at)
+    put_steps(source, k, way, room, at)
 }
 
-// Writes the steps of a way of entry k, one after another, while steps are left. (By a loop: a call of itself for the steps left would have up to 60
+// Writes the steps of a way of entry k, one after another. (By a loop: a call of itself for the steps left would have up to 60
 // calls under way for each reference of a chain.)
 #[cycle(writers)]
-fn put_steps(
-    sheet: &[u8],
-    starts: &[u32],
-    k: usize,
-    steps: Steps,
-    room: &mut [u8],
-    at: usize,
-) -> usize
-    requires { WayOf sheet.now starts.now k steps × (at + length (steps_text_of sheet.now steps) ≤ length room.old) }
-    ensures { PutBytes room.old at (steps_text_of sheet.now steps) room.new result }
+fn put_steps(source: &Source<'_>, k: usize, steps: Steps, room: &mut [u8], at: usize) -> usize
+    requires { WayOf source.now.sheet.now source.now.starts.now k steps × (at + length (steps_text_of source.now.sheet.now steps) ≤ length room.old) }
+    ensures { PutBytes room.old at (steps_text_of source.now.sheet.now steps) room.new result }
 {
     let version = steps.version;
     let mut from = steps.start;
     let mut next = at;
-    let mut left = steps.count;
-    while 0 < left {
+    for _ in 0..steps.count {
         let step = Steps {
             start: from,
             count: 1,
             version,
         };
-        next = put_step(sheet, starts, k, step, room, next);
+        next = put_step(source, k, step, room, next);
         from += sheet::steps_size(version, 1);
-        left -= 1;
     }
     next
 }
 
 // Writes one step of a way of entry k: its label, and its test by the question of an earlier entry.
 #[cycle(writers)]
-fn put_step(
-    sheet: &[u8],
-    starts: &[u32],
-    k: usize,
-    step: Steps,
-    room: &mut [u8],
-    at: usize,
-) -> usize
-    requires { WayOf sheet.now starts.now k step × (step.count ≡ 1) × (at + length (steps_text_of sheet.now step) ≤ length room.old) }
-    ensures { PutBytes room.old at (steps_text_of sheet.now step) room.new result }
+fn put_step(source: &Source<'_>, k: usize, step: Steps, room: &mut [u8], at: usize) -> usize
+    requires { WayOf source.now.sheet.now source.now.starts.now k step × (step.count ≡ 1) × (at + length (steps_text_of source.now.sheet.now step) ≤ length room.old) }
+    ensures { PutBytes room.old at (steps_text_of source.now.sheet.now step) room.new result }
 {
-    let label = labelled(sheet, step, 0);
+    let label = labelled(source.sheet, step, 0);
     let next = put_label(room, at, label);
-    let test = tested(sheet, step, 0);
-    put_between(sheet, starts, k, test, b'[', b']', room, next)
+    let test = tested(source.sheet, step, 0);
+    put_between(source, k, test, b'[', b']', room, next)
 }
 
 // ---- the operations
 
 // Of an entry of an accepted sheet: 28, 29, or the length.
-fn entry_answer(sheet: &[u8], question: Question) -> TextAnswer
-    requires { (sheet_refusal sheet.now ≡ 0) × (question.0 < count_of sheet.now) }
-    ensures { result ≡ question_answer (question_of sheet.now question.0) }
+fn entry_answer(sheet: Sheet<'_>, question: Question) -> Result<u32, Refused>
+    requires { question.0 < count_of sheet.bytes.now }
+    ensures { result ≡ question_answer (question_of sheet.entry.bytes.now question.0) }
 {
     let m = question_measure::measure_of(sheet, question);
-    let chain = m.chain;
-    let length = m.length;
-    if MOST_CHAIN < chain {
-        return TextAnswer::Refused(28);
+    if MOST_CHAIN < m.chain {
+        return Err(Refusal::LongChain.of(Part::Call));
     }
-    if MOST_LENGTH < length {
-        return TextAnswer::Refused(29);
+    if MOST_LENGTH < m.length {
+        return Err(Refusal::LongText.of(Part::Call));
     }
-    TextAnswer::Length(length as u32)
+    Ok(m.length as u32)
 }
 
 // The length of the text of an entry of any number.
-fn length_of(sheet: &[u8], entry: usize) -> TextAnswer
+fn length_of(sheet: &[u8], entry: usize) -> Result<u32, Refused>
     ensures { result ≡ length_answer sheet.now entry }
 {
-    let checked = sheet::check(sheet);
-    match checked {
-        SheetAnswer::Accepted { entries, bound: _ } => {
-            if entries as usize <= entry {
-                return TextAnswer::Refused(25);
-            }
-            entry_answer(sheet, Question(entry as u16))
-        }
-        SheetAnswer::Refused(r) => TextAnswer::SheetRefused(r),
+    let sheet = Sheet::check(sheet).map_err(|refusal| refusal.of(Part::Sheet))?;
+    if sheet.entries() as usize <= entry {
+        return Err(Refusal::NoEntry.of(Part::Call));
     }
+    entry_answer(sheet, Question(entry as u16))
 }
 
 // Writes the text of entry k of an accepted sheet at the start of room that has enough bytes.
-fn put_text(sheet: &[u8], k: usize, room: &mut [u8])
-    requires { (sheet_refusal sheet.now ≡ 0) × (k < count_of sheet.now) × (length (text_of sheet.now k) ≤ length room.old) }
-    ensures { room.new ≡ text_of sheet.now k ++ drop (length (text_of sheet.now k)) room.old }
+fn put_text(sheet: Sheet<'_>, k: usize, room: &mut [u8])
+    requires { (k < count_of sheet.bytes.now) × (length (text_of sheet.bytes.now k) ≤ length room.old) }
+    ensures { room.new ≡ text_of sheet.entry.bytes.now k ++ drop (length (text_of sheet.entry.bytes.now k)) room.old }
 {
-    let mut starts = [0u32; ENTRIES];
-    list_starts(sheet, k + 1, &mut starts);
-    put_question(sheet, &starts, k, room, 0);
+    let mut all = [0; ENTRIES];
+    let starts = &mut all[..k + 1];
+    list_starts(sheet, starts);
+    let source = Source {
+        sheet: sheet.bytes,
+        starts,
+    };
+    put_question(&source, k, room, 0);
 }
 
 // Writes the text of an entry of any number.
-fn write_of(sheet: &[u8], entry: usize, room: &mut [u8]) -> TextAnswer
+fn write_of(sheet: &[u8], entry: usize, room: &mut [u8]) -> Result<u32, Refused>
     ensures { IsWrite sheet.now entry room.old result room.new }
 {
-    let answer = length_of(sheet, entry);
-    match answer {
-        TextAnswer::Length(n) => {
-            if room.len() < n as usize {
-                return TextAnswer::Refused(30);
-            }
-            put_text(sheet, entry, room);
-            TextAnswer::Length(n)
-        }
-        TextAnswer::SheetRefused(r) => TextAnswer::SheetRefused(r),
-        TextAnswer::Refused(r) => TextAnswer::Refused(r),
+    let length = length_of(sheet, entry)?;
+    if room.len() < length as usize {
+        return Err(Refusal::TextRoom.of(Part::Call));
     }
+    put_text(Sheet { bytes: sheet }, entry, room);
+    Ok(length)
 }
 
 // The exact length of the text of an entry's question, without writing it. Refused: the sheet's refusal; 25 where the sheet has no such
 // entry; 28 where a chain of more than 1,024 references leads from it; 29 where the length exceeds 4,294,967,295.
-pub fn question_length(sheet: &[u8], entry: Question) -> TextAnswer
+pub fn question_length(sheet: &[u8], entry: Question) -> Result<u32, Refused>
     ensures { result ≡ length_answer sheet.now entry.0 }
 {
     length_of(sheet, entry.0 as usize)
@@ -397,20 +342,19 @@ pub fn question_length(sheet: &[u8], entry: Question) -> TextAnswer
 
 // Writes the question of an entry out in full at the room's start, and answers the length; bytes after the text stay. Refused as
 // `question_length`, and last 30 where there is less room than the length; the room then stays.
-pub fn question_text(sheet: &[u8], entry: Question, room: &mut [u8]) -> TextAnswer
+pub fn question_text(sheet: &[u8], entry: Question, room: &mut [u8]) -> Result<u32, Refused>
     ensures { IsWrite sheet.now entry.0 room.old result room.new }
 {
     write_of(sheet, entry.0 as usize, room)
 }
 
 // An answer as one number: refusal + 2^8 × part (3, the sheet, where it is the sheet's), or 2^16 × the length.
-fn number_of(answer: TextAnswer) -> u64
+fn number_of(answer: Result<u32, Refused>) -> u64
     ensures { result ≡ code (text_outcome answer) }
 {
     match answer {
-        TextAnswer::Length(n) => outcome::code(0, outcome::OF_CALL, n % 16777216, n / 16777216),
-        TextAnswer::SheetRefused(r) => outcome::code(r, outcome::OF_SHEET, 0, 0),
-        TextAnswer::Refused(r) => outcome::code(r, outcome::OF_CALL, 0, 0),
+        Ok(n) => outcome::accepted(n % 16777216, n / 16777216),
+        Err(refused) => refused.code(),
     }
 }
 
@@ -418,14 +362,12 @@ fn number_of(answer: TextAnswer) -> u64
 pub fn length_code(sheet: &[u8], entry: usize) -> u64
     ensures { result ≡ code (text_outcome (length_answer sheet.now entry)) }
 {
-    let answer = length_of(sheet, entry);
-    number_of(answer)
+    number_of(length_of(sheet, entry))
 }
 
 // `question_text` of an entry of any number, its answer as one number.
 pub fn text_code(sheet: &[u8], entry: usize, room: &mut [u8]) -> u64
     ensures { IsWriteCode sheet.now entry room.old result room.new }
 {
-    let answer = write_of(sheet, entry, room);
-    number_of(answer)
+    number_of(write_of(sheet, entry, room))
 }

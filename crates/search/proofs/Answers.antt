@@ -3,9 +3,10 @@ use mathlib.Core.Bool.{Bool, true, false, So, cond, not, ◌&&◌, false≢true}
 use mathlib.Core.Path.{◌≡◌, refl, sym, ap, ap₂, ◌∙◌}
 use mathlib.Core.Logic.{◌⊎◌, inl, inr, ⊎_elim}
 use mathlib.Core.List.{List, [], ◌∷◌}
+use Rattle.std.specs.Prelude.{Some, None}
 use Prim.Native.Nat.{ℕ, suc, ◌+◌, ◌-◌, ◌/◌, ◌^◌, ◌≤◌, ◌<◌}
 use native.Mathlib.Omega.{arith}
-use borrow.Author.Tests.{eqb-true, eq-eqb, ne_eqb}
+use borrow.Author.Tests.{eq-eqb, ne_eqb}
 use lib.Dec.{eqb}
 use lib.ListN.{length, get_or}
 use lib.Pow.{pow-lt}
@@ -26,9 +27,9 @@ use Rattle.search_links.specs.Hops.{View, start_of, to_of, hop_at, Opened}
 use Rattle.search_steps.specs.Paths.{Leaves, Trail, path_of, ends_over}
 use Rattle.search_steps.specs.Laws.{leaves_below, leaves_low, trail_links}
 use Rattle.search_pairs.specs.declared.Route.{Route}
-use Rattle.search_pairs.specs.declared.Pair.{Pair}
-use Rattle.search_pairs.specs.Pairs.{kind_of, alone, failure, links_in, Shaped, Clear, Shown}
+use Rattle.search_pairs.specs.Pairs.{kind_of, alone, failure, links_in, Shaped, Couple, Clear, Shown}
 use Rattle.search_pairs.specs.Laws.{test_off, some_node, kind_some}
+use Rattle.sheet.specs.Entry.{kind_number}
 use Rattle.search.specs.declared.Reason.{Reason}
 use Rattle.search.specs.Lengths.{Most, Sooner, Finding, Unanswered, Single}
 use Rattle.search.specs.Reasons.{number_of, Posed, reason_of, choice_of, Numbered, Answered}
@@ -99,7 +100,7 @@ module _ (l r : Graph) (z : Relation) (v u : View) (rows ea eb : List ℕ) (a b 
       trails_none v l ea d.left i a at_left _
       (λ p tp lp. trails_none v l ea d.left j a at_left _ (λ q tq lq. pair_clear p q tp tq (h.each p q tp lp tq lq)))
 
-  module _ (w : Pair) (n : w.kind ≡ 0 → ⊥) where
+  module _ (w : Couple) (n : w.kind ≡ 0 → ⊥) where
     -- the reason that two paths are
     abbrev because : Choice
     because = by_kind w.kind (path_of v (links_in w.first)) (path_of v (links_in w.second))
@@ -141,7 +142,7 @@ module _ (l r : Graph) (z : Relation) (v u : View) (rows ea eb : List ℕ) (a b 
     unfolding paths_choice
     paths-clear h = (list_none _ (suc (c + c)) (λ s. s)).1 (λ s m. total-clear s (omega arith) (λ i j o _. h i j o))
 
-    paths_found : (w : Pair) (n : w.kind ≡ 0 → ⊥) (i j : ℕ) → c ≤ 4 → Most c i j → Shown v u rows ea eb a b i j w
+    paths_found : (w : Couple) (n : w.kind ≡ 0 → ⊥) (i j : ℕ) → c ≤ 4 → Most c i j → Shown v u rows ea eb a b i j w
         → ((k m : ℕ) → Most c k m → Sooner k m i j → Clear v u rows ea eb a b k m) → paths_choice l r c z a b ≡ because w n
     unfolding paths_choice total_choice
     paths_found w n i j small o h before =
@@ -203,62 +204,75 @@ module _ (l r : Graph) (z : Relation) (v u : View) (rows ea eb : List ℕ) (a b 
       (ap (λ (e : Bool). when (not e) (by_link (hop_at v k))) (link_fails k n).missing))
 
 -- ---- the two searches, one after the other
-module _ (v u : View) (rows ea eb : List ℕ) (a b c : ℕ) (o : Opened v.starts v.to) (low : a < 64) (n : ℕ) (l : Single v u rows a b n) where
-  pub why_link : n < start_of v (a + 1) → (s : Reason) → s.kind ≡ 4 → s.first ≡ record { len = 1; links = n ∷ 0 ∷ 0 ∷ 0 ∷ [] } → s.second.len ≡ 0
-      → Answered v u rows ea eb a b c s
-  unfolding reason_of choice_of chosen or_else
-  why_link t s k e f = record {
-    known = λ _. (omega arith, omega arith);
-    one = λ _. (
-      rw e (record {
-        short = omega arith;
-        links = refl;
-        below = λ i m. let z : i ≡ 0 = omega arith in rw z (omega (arith, leaves_below v o a n low (l.found t).leaves, o.few));
-        low = λ i m. let z : i ≡ 0 = omega arith in rw z (leaves_low v o a n low (l.found t).leaves);
-      }),
-      ap (λ (w : Route). w.len) e,
-      f,
-    );
-    two = λ h. absurd (omega arith);
-    is = λ g h z d. rw (k, e) (sym (ap (λ (x : Choice). or_else x (paths_choice g h c z a b)) (links_first g h z v u rows ea eb a b d n (l.found t) l.before)));
+module _ (v u : View) (rows ea eb : List ℕ) (a b c : ℕ) (o : Opened v.starts v.to) (low : a < 64) where
+  -- the reason that there is answers, if its numbers lie so and it is what the theory chooses
+  answered_by : (s : Reason) → (4 ≤ kind_number s.kind) × (kind_number s.kind ≤ 6)
+      → (kind_number s.kind ≡ 4 → Numbered v.to 1 s.first × (s.first.len ≡ 1) × (s.second.len ≡ 0))
+      → (5 ≤ kind_number s.kind → Numbered v.to c s.first × Numbered v.to c s.second)
+      → ((l r : Graph) (z : Relation) → Posed l r z v u rows ea eb a b → some (reason_of v s) ≡ chosen l r c z a b)
+      → Answered v u rows ea eb a b c (Some s)
+  unfolding choice_of
+  answered_by s k m n i = record {
+    known = λ s' e. let d : s ≡ s' = cc in rw (← d) k;
+    one = λ s' e. let d : s ≡ s' = cc in rw (← d) m;
+    two = λ s' e. let d : s ≡ s' = cc in rw (← d) n;
+    is = i;
   }
 
-  module _ (t : start_of v (a + 1) ≤ n) (small : c ≤ 4) (r : Pair) (f : Finding v u rows ea eb a b (Most c) r) (s : Reason) (k : s.kind ≡ r.kind)
-      (e : s.first ≡ r.first) (e' : s.second ≡ r.second) where
-    -- the kind of two paths
-    kinds : {i j : ℕ} → Shown v u rows ea eb a b i j r → (s.kind ≡ 0 → ⊥) → (s.kind ≡ 5) ⊎ (s.kind ≡ 6)
-    unfolding failure
-    kinds w n =
-        let d = k ∙ w.fails in
-        ⊎_elim (λ (h, _). inl (d ∙ h)) (λ (h, _, _). inr (d ∙ h)) (kind_some _ _ (λ z. n (d ∙ z)))
+  pub why_link : (n : ℕ) → Single v u rows a b (Some n) → (s : Reason) → kind_number s.kind ≡ 4
+      → s.first ≡ record { len = 1; links = n ∷ 0 ∷ 0 ∷ 0 ∷ [] } → s.second.len ≡ 0 → Answered v u rows ea eb a b c (Some s)
+  unfolding reason_of chosen or_else
+  why_link n l s k e f =
+      answered_by s (omega arith, omega arith)
+      (λ _. (
+        rw e (record {
+          short = omega arith;
+          links = refl;
+          below = λ i m. let z : i ≡ 0 = omega arith in rw z (omega (arith, leaves_below v o a n low here.leaves, o.few));
+          low = λ i m. let z : i ≡ 0 = omega arith in rw z (leaves_low v o a n low here.leaves);
+        }),
+        ap (λ (w : Route). w.len) e,
+        f,
+      ))
+      (λ h. absurd (omega arith))
+      (λ g h z d. rw (k, e) (sym (ap (λ (x : Choice). or_else x (paths_choice g h c z a b)) (links_first g h z v u rows ea eb a b d n here (l.before n refl)))))
+    where
+      here : Unanswered v u rows a b n
+      here = l.found n refl
 
-    some_pair : (s.kind ≡ 0 → ⊥) → r.kind ≡ 0 → ⊥
-    some_pair n z = n (k ∙ z)
+  module _ (l : Single v u rows a b None) (small : c ≤ 4) (r : Couple) (f : Finding v u rows ea eb a b (Most c) r) where
+    unlinked : (g h : Graph) (z : Relation) → Posed g h z v u rows ea eb a b → chosen g h c z a b ≡ paths_choice g h c z a b
+    unfolding chosen or_else
+    unlinked g h z d =
+        ap (λ (x : Choice). or_else x (paths_choice g h c z a b)) (links_none g h z v u rows ea eb a b d (l.none refl))
 
-    pub why_two : Answered v u rows ea eb a b c s
-    unfolding choice_of reason_of chosen or_else by_kind
-    why_two = record {
-      known = λ n. (let (i, j, m, w, _) = f.found (some_pair n) in ⊎_elim (λ five. (omega arith, omega arith)) (λ six. (omega arith, omega arith)) (kinds w n));
-      one = λ h. (let n : s.kind ≡ 0 → ⊥ = λ z. omega arith in
-          let (i, j, m, w, _) = f.found (some_pair n) in ⊎_elim (λ five. absurd (omega arith)) (λ six. absurd (omega arith)) (kinds w n));
-      two = λ h. (let (i, j, m, w, _) = f.found (some_pair (λ z. omega arith)) in
-          rw (e, e') (
+    pub why_none : r.kind ≡ 0 → Answered v u rows ea eb a b c None
+    unfolding choice_of
+    why_none e = record {
+      known = λ s q. cc;
+      one = λ s q. cc;
+      two = λ s q. cc;
+      is = λ g h z d. sym (unlinked g h z d ∙ paths-clear g h z v u rows ea eb a b d c (f.none e));
+    }
+
+    module _ (n : r.kind ≡ 0 → ⊥) (s : Reason) (k : kind_number s.kind ≡ r.kind) (e : s.first ≡ r.first) (e' : s.second ≡ r.second) where
+      -- the kind of two paths
+      kinds : {i j : ℕ} → Shown v u rows ea eb a b i j r → (r.kind ≡ 5) ⊎ (r.kind ≡ 6)
+      unfolding failure
+      kinds w = ⊎_elim (λ (h, _). inl (w.fails ∙ h)) (λ (h, _, _). inr (w.fails ∙ h)) (kind_some _ _ (λ z. n (w.fails ∙ z)))
+
+      pub why_two : Answered v u rows ea eb a b c (Some s)
+      unfolding reason_of by_kind
+      why_two =
+          let (i, j, m, w, before) = f.found n in
+          let five_or_six : (5 ≤ r.kind) × (r.kind ≤ 6) = ⊎_elim (λ five. (omega arith, omega arith)) (λ six. (omega arith, omega arith)) (kinds w) in
+          let four : r.kind ≡ 4 → ⊥ = λ y. omega arith in
+          answered_by s (omega arith, omega arith)
+          (λ h. absurd (omega arith))
+          (λ h. rw (e, e') (
             numbered_of v o a low c i r.first w.first.0 w.first.1 (omega (arith, m.order, m.most)) small,
             numbered_of v o a low c j r.second w.second.0 w.second.1 m.most small,
-          ));
-      is = λ g h z d. choice g h z d (eqb r.kind 0) refl;
-    }
-      where
-        unlinked : (g h : Graph) (z : Relation) → Posed g h z v u rows ea eb a b → chosen g h c z a b ≡ paths_choice g h c z a b
-        unlinked g h z d =
-            ap (λ (x : Choice). or_else x (paths_choice g h c z a b))
-            (links_none g h z v u rows ea eb a b d (λ j q. l.before j (omega (arith, q.leaves.until)) q))
-
-        choice : (g h : Graph) (z : Relation) → Posed g h z v u rows ea eb a b → (y : Bool) → eqb r.kind 0 ≡ y → choice_of v s ≡ chosen g h c z a b
-        choice g h z d true q = rw (k, q) (sym (unlinked g h z d ∙ paths-clear g h z v u rows ea eb a b d c (f.none (eqb-true r.kind 0 q))))
-        choice g h z d false q =
-            let n : r.kind ≡ 0 → ⊥ = λ y. false≢true (sym q ∙ eq-eqb r.kind 0 y) in
-            let (i, j, m, w, before) = f.found n in
-            let four : r.kind ≡ 4 → ⊥ = λ y. ⊎_elim (λ five. omega arith) (λ six. omega arith) (kinds w (λ y. n (sym k ∙ y))) in
-            let this : choice_of v s ≡ because g h z v u rows ea eb a b d r n = rw (k, e, e', ne_eqb r.kind 4 four) in
-            this ∙ sym (unlinked g h z d ∙ paths_found g h z v u rows ea eb a b d c r n i j small m w before)
+          ))
+          (λ g h z d.
+          let this : some (reason_of v s) ≡ because g h z v u rows ea eb a b d r n = rw (k, e, e', ne_eqb r.kind 4 four, ne_eqb r.kind 0 n) refl in
+          this ∙ sym (unlinked g h z d ∙ paths_found g h z v u rows ea eb a b d c r n i j small m w before))

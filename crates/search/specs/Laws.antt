@@ -1,7 +1,7 @@
 -- What a caller of the search cites, in exit form: every number that the code has is a variable.
-use Rattle.std.specs.Prelude.{true, ◌≡◌, refl, List, [], ◌∷◌, ℕ, zero, suc, ◌≤◌, ◌<◌, length, get_or, take}
+use Rattle.std.specs.Prelude.{true, ◌≡◌, refl, List, [], ◌∷◌, ℕ, zero, suc, ◌≤◌, ◌<◌, length, get_or, take, Option, Some, None}
 use Rattle.std.proofs.Math.Path.{sym}
-use Rattle.std.proofs.Common.{ap, ◌∙◌, not-suc-le-zero, le_of_suc-le-suc, arith, eq-eqb, ne_eqb, get_or-take, length-take-le}
+use Rattle.std.proofs.Common.{ap, ◌∙◌, not-suc-le-zero, le_of_suc-le-suc, arith, get_or-take, length-take-le}
 use Rattle.theory.specs.Graph.{same, differ, Graph}
 use Rattle.theory.specs.Path.{Hop}
 use Rattle.theory.specs.Bisimulation.{Relation}
@@ -13,6 +13,7 @@ use Rattle.words.specs.Words.{bit}
 use Rattle.search_links.specs.Hops.{View, hop_at}
 use Rattle.search_steps.specs.Paths.{path_of}
 use Rattle.search_pairs.specs.declared.Route.{Route}
+use Rattle.sheet.specs.Entry.{kind_number}
 use Rattle.search.specs.declared.Reason.{Reason}
 use Rattle.search.specs.BridgeLaws.{path_length}
 use Rattle.search.specs.Lengths.{Ready}
@@ -33,37 +34,37 @@ module _ {l r : Graph} {v u : View} {ea eb : List ℕ} (left : Charted l v ea) (
   charted_posed rows z e = record { left = left.drawn; right = right.drawn; related = e; here = here; there = there }
 
 -- ---- the answer, of two graphs and a relation that the lists show
-module _ (l r : Graph) (z : Relation) (v u : View) (rows ea eb : List ℕ) (a b c : ℕ) (s : Reason) (w : Answered v u rows ea eb a b c s)
+module _ (l r : Graph) (z : Relation) (v u : View) (rows ea eb : List ℕ) (a b c : ℕ) (o : Option Reason) (w : Answered v u rows ea eb a b c o)
     (d : Posed l r z v u rows ea eb a b) where
   -- a reason is the one that the theory chooses
-  pub answer_some : (s.kind ≡ 0 → ⊥) → chosen l r c z a b ≡ some (reason_of v s)
+  pub answer_some : (s : Reason) → o ≡ Some s → chosen l r c z a b ≡ some (reason_of v s)
   unfolding choice_of
-  answer_some n = sym (w.is l r z d) ∙ rw (ne_eqb s.kind 0 n)
+  answer_some s e = sym (w.is l r z d) ∙ ap (choice_of v) e
 
   -- it fails
-  pub answer_fails : (s.kind ≡ 0 → ⊥) → Fails l r c z a b (reason_of v s)
-  answer_fails n = chosen_fails l r z a b c (reason_of v s) (answer_some n)
+  pub answer_fails : (s : Reason) → o ≡ Some s → Fails l r c z a b (reason_of v s)
+  answer_fails s e = chosen_fails l r z a b c (reason_of v s) (answer_some s e)
 
   -- where there is none, it chooses none
-  pub answer_chosen_none : s.kind ≡ 0 → chosen l r c z a b ≡ none
+  pub answer_chosen_none : o ≡ None → chosen l r c z a b ≡ none
   unfolding choice_of
-  answer_chosen_none e = sym (w.is l r z d) ∙ rw (eq-eqb s.kind 0 e)
+  answer_chosen_none e = sym (w.is l r z d) ∙ ap (choice_of v) e
 
   -- and the clauses hold from left to right
-  pub answer_none : s.kind ≡ 0 → zigs l r c z a b ≡ true
+  pub answer_none : o ≡ None → zigs l r c z a b ≡ true
   answer_none e = (chosen_none l r z a b c d.left.symmetric d.right.symmetric).0 (answer_chosen_none e)
 
 -- ---- the reason of each kind
 module _ (v : View) (s : Reason) where
-  pub reason_link : s.kind ≡ 4 → reason_of v s ≡ by_link (hop_at v (get_or s.first.links 0 0))
+  pub reason_link : kind_number s.kind ≡ 4 → reason_of v s ≡ by_link (hop_at v (get_or s.first.links 0 0))
   unfolding reason_of
   reason_link e = rw e
 
-  pub reason_same : s.kind ≡ 5 → reason_of v s ≡ by_paths same (path_in v s.first) (path_in v s.second)
+  pub reason_same : kind_number s.kind ≡ 5 → reason_of v s ≡ by_paths same (path_in v s.first) (path_in v s.second)
   unfolding reason_of
   reason_same e = rw e
 
-  pub reason_differ : s.kind ≡ 6 → reason_of v s ≡ by_paths differ (path_in v s.first) (path_in v s.second)
+  pub reason_differ : kind_number s.kind ≡ 6 → reason_of v s ≡ by_paths differ (path_in v s.first) (path_in v s.second)
   unfolding reason_of
   reason_differ e = rw e
 

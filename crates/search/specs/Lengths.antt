@@ -1,9 +1,8 @@
 -- What the search for two paths without counterpart answers, for a range of lengths.
-use Rattle.std.specs.Prelude.{◌≡◌, ◌⊎◌, List, ℕ, ◌+◌, ◌^◌, ◌≤◌, ◌<◌}
-use Rattle.search_links.specs.Hops.{View, start_of, label_of, to_of, Ordered}
+use Rattle.std.specs.Prelude.{◌≡◌, ◌⊎◌, List, ℕ, ◌+◌, ◌^◌, ◌≤◌, ◌<◌, Option, Some, None}
+use Rattle.search_links.specs.Hops.{View, label_of, to_of, Ordered}
 use Rattle.search_steps.specs.Paths.{Leaves, step_word}
-use Rattle.search_pairs.specs.declared.Pair.{Pair}
-use Rattle.search_pairs.specs.Pairs.{Clear, Shown}
+use Rattle.search_pairs.specs.Pairs.{Couple, Clear, Shown}
 
 -- What the search asks: two books' lists, a cell of each.
 pub record Ready (v u : View) (x y : ℕ) : Type 0 where
@@ -28,7 +27,7 @@ abbrev pub Sooner : ℕ → ℕ → ℕ → ℕ → Type 0
 Sooner k l i j = (k + l < i + j) ⊎ ((k + l ≡ i + j) × (k < i))
 
 -- The first two paths of lengths in a range that fail, or that there are none.
-pub record Finding (v u : View) (z ea eb : List ℕ) (x y : ℕ) (R : ℕ → ℕ → Type 0) (r : Pair) : Type 0 where
+pub record Finding (v u : View) (z ea eb : List ℕ) (x y : ℕ) (R : ℕ → ℕ → Type 0) (r : Couple) : Type 0 where
   pub found : (r.kind ≡ 0 → ⊥)
       → (i j : ℕ) × R i j × Shown v u z ea eb x y i j r × ((k l : ℕ) → R k l → Sooner k l i j → Clear v u z ea eb x y k l)
   pub none : r.kind ≡ 0 → (i j : ℕ) → R i j → Clear v u z ea eb x y i j
@@ -38,7 +37,8 @@ pub record Unanswered (v u : View) (z : List ℕ) (x y k : ℕ) : Type 0 where
   pub leaves : Leaves v x k
   pub none : step_word u z (2 ^ y) (label_of v k) (to_of v k) ≡ 0
 
--- The first link without counterpart, or where the links out of x end.
-pub record Single (v u : View) (z : List ℕ) (x y k : ℕ) : Type 0 where
-  pub found : k < start_of v (x + 1) → Unanswered v u z x y k
-  pub before : (j : ℕ) → j < k → Unanswered v u z x y j → ⊥
+-- The first link without counterpart, or that there is none.
+pub record Single (v u : View) (z : List ℕ) (x y : ℕ) (o : Option ℕ) : Type 0 where
+  pub found : (k : ℕ) → o ≡ Some k → Unanswered v u z x y k
+  pub before : (k : ℕ) → o ≡ Some k → (j : ℕ) → j < k → Unanswered v u z x y j → ⊥
+  pub none : o ≡ None → (j : ℕ) → Unanswered v u z x y j → ⊥

@@ -1,5 +1,5 @@
 -- What the search for a reason answers, in the theory's terms.
-use Rattle.std.specs.Prelude.{cond, ◌≡◌, List, ℕ, ◌≤◌, ◌<◌, eqb, length, get_or, take}
+use Rattle.std.specs.Prelude.{cond, ◌≡◌, List, ℕ, ◌≤◌, ◌<◌, eqb, length, get_or, take, Option, Some, None}
 use Rattle.theory.specs.Graph.{Comparison, same, differ, Graph, WellFormed}
 use Rattle.theory.specs.Path.{Path, out}
 use Rattle.theory.specs.Bisimulation.{Relation}
@@ -10,6 +10,7 @@ use Rattle.search_links.specs.Hops.{View, hop_at, hops_of, Ordered}
 use Rattle.search_links.specs.Sets.{row_at, Valued}
 use Rattle.search_steps.specs.Paths.{path_of}
 use Rattle.search_pairs.specs.declared.Route.{Route}
+use Rattle.sheet.specs.Entry.{kind_number}
 use Rattle.search.specs.declared.Reason.{Reason}
 
 -- The number of a comparison in a table of rows.
@@ -46,8 +47,8 @@ path_in v w = path_of v (take w.len w.links)
 -- The theory's reason: by its kind, a link, or a comparison and two paths.
 unfoldable pub reason_of : View → Reason → Cause
 reason_of v s =
-    cond (eqb s.kind 4) (by_link (hop_at v (get_or s.first.links 0 0)))
-    (by_paths (cond (eqb s.kind 5) same differ) (path_in v s.first) (path_in v s.second))
+    cond (eqb (kind_number s.kind) 4) (by_link (hop_at v (get_or s.first.links 0 0)))
+    (by_paths (cond (eqb (kind_number s.kind) 5) same differ) (path_in v s.first) (path_in v s.second))
 
 -- At most c links, each one that there is.
 pub record Numbered (to : List ℕ) (c : ℕ) (w : Route) : Type 0 where
@@ -57,13 +58,14 @@ pub record Numbered (to : List ℕ) (c : ℕ) (w : Route) : Type 0 where
   pub low : (i : ℕ) → i < w.len → get_or to (get_or w.links i 0) 0 < 64
 
 -- The theory's choice: a reason, or none.
-unfoldable pub choice_of : View → Reason → Choice
-choice_of v s = cond (eqb s.kind 0) none (some (reason_of v s))
+unfoldable pub choice_of : View → Option Reason → Choice
+choice_of v None = none
+choice_of v (Some s) = some (reason_of v s)
 
 -- What the search answers for the pair (a, b): how its numbers lie, and that, of any graphs and any relation that the lists show, it is what the
 -- theory chooses.
-pub record Answered (v u : View) (rows ea eb : List ℕ) (a b c : ℕ) (s : Reason) : Type 0 where
-  pub known : (s.kind ≡ 0 → ⊥) → (4 ≤ s.kind) × (s.kind ≤ 6)
-  pub one : s.kind ≡ 4 → Numbered v.to 1 s.first × (s.first.len ≡ 1) × (s.second.len ≡ 0)
-  pub two : 5 ≤ s.kind → Numbered v.to c s.first × Numbered v.to c s.second
-  pub is : (l r : Graph) (z : Relation) → Posed l r z v u rows ea eb a b → choice_of v s ≡ chosen l r c z a b
+pub record Answered (v u : View) (rows ea eb : List ℕ) (a b c : ℕ) (o : Option Reason) : Type 0 where
+  pub known : (s : Reason) → o ≡ Some s → (4 ≤ kind_number s.kind) × (kind_number s.kind ≤ 6)
+  pub one : (s : Reason) → o ≡ Some s → kind_number s.kind ≡ 4 → Numbered v.to 1 s.first × (s.first.len ≡ 1) × (s.second.len ≡ 0)
+  pub two : (s : Reason) → o ≡ Some s → 5 ≤ kind_number s.kind → Numbered v.to c s.first × Numbered v.to c s.second
+  pub is : (l r : Graph) (z : Relation) → Posed l r z v u rows ea eb a b → choice_of v o ≡ chosen l r c z a b

@@ -2,21 +2,24 @@
 // Callers exchange the books for the other direction.
 #![tactic(auto)]
 
-ghost use Rattle.std.specs.Prelude.{◌+◌, ◌≤◌};
-ghost use Rattle.search_links.specs.Hops.{view_of};
+ghost use Rattle.std.specs.Prelude.{◌+◌, ◌≤◌, ◌<◌};
+ghost use Rattle.search_links.specs.Sides.{view};
 ghost use Rattle.search_links.specs.Sets.{Valued};
+ghost use Rattle.search_pairs.specs.Pairs.{couple};
 ghost use Rattle.search_levels.specs.Depths.{Laid, Standing, Settled};
-ghost use Rattle.search.specs.Lengths.{Ready, Finding, Total, Most, Single};
+ghost use Rattle.search.specs.Lengths.{Finding, Total, Most, Single};
 ghost use Rattle.search.specs.Reasons.{Answered};
 
 use search_levels::Levels;
+use search_links::Side;
 use search_pairs::{Pair, Route};
+use search_tables::Table;
+use sheet::Kind;
 
-// A reason to part x and y, by the kind of the entry that asks it: 4 one link, which is `first`; 5 and 6 two paths whose recordings are
-// same or differ; 0 where there is no reason.
+// A reason to part x and y, by the kind of the entry that asks it: one link, which is `first`; or two paths whose recordings are same or differ.
 #[derive(Clone, Copy)]
 pub struct Reason {
-    pub kind: u8,
+    pub kind: Kind,
     pub first: Route,
     pub second: Route,
 }
@@ -24,168 +27,80 @@ pub struct Reason {
 // The first two paths of s links in all, the first no longer than the second, neither longer than c: those with the shortest first path. No two of fewer
 // links in all fail.
 fn by_lengths(
-    sa: &[u16; 65],
-    la: &[u16; 512],
-    ta: &[u8; 512],
-    ea: &[u64; 128],
-    sb: &[u16; 65],
-    lb: &[u16; 512],
-    tb: &[u8; 512],
-    eb: &[u64; 128],
+    a: &Side,
+    b: &Side,
     z: &[u64; 64],
-    lefts: &[u64; 64],
-    rights: &[u64; 64],
+    table: &Table,
     levels: Levels,
     x: u8,
     y: u8,
     c: u8,
     s: u8,
-) -> Pair
-    requires { Ready (view_of sa.now la.now ta.now) (view_of sb.now lb.now tb.now) x y × (c ≤ 4) × (s ≤ c + c) × Valued ea.now × Valued eb.now × Laid lefts.now rights.now levels × Standing (view_of sa.now la.now ta.now) (view_of sb.now lb.now tb.now) z.now ea.now eb.now x y c lefts.now rights.now levels × Settled (view_of sa.now la.now ta.now) (view_of sb.now lb.now tb.now) z.now ea.now eb.now x y c s }
-    ensures { Finding (view_of sa.now la.now ta.now) (view_of sb.now lb.now tb.now) z.now ea.now eb.now x y (Total c s) result }
+) -> Option<Pair>
+    requires { (x < 64) × (y < 64) × (c ≤ 4) × (s ≤ c + c) × Valued a.now.ends × Valued b.now.ends × Laid table.now.lefts table.now.rights levels × Standing (view a.now) (view b.now) z.now a.now.ends b.now.ends x y c table.now.lefts table.now.rights levels × Settled (view a.now) (view b.now) z.now a.now.ends b.now.ends x y c s }
+    ensures { Finding (view a.now) (view b.now) z.now a.now.ends b.now.ends x y (Total c s) (couple result) }
 {
-    let mut i = 0u8;
-    if c < s {
-        i = s - c;
-    }
-    while i <= s / 2 {
-        let r = search_levels::pair_at(
-            sa,
-            la,
-            ta,
-            ea,
-            sb,
-            lb,
-            tb,
-            eb,
-            z,
-            lefts,
-            rights,
-            levels,
-            x,
-            y,
-            c,
-            i,
-            s - i,
-        );
-        if r.kind != 0 {
-            return r;
+    for i in s.saturating_sub(c)..=s / 2 {
+        let found = search_levels::pair_at(a, b, z, table, levels, x, y, c, i, s - i);
+        if found.is_some() {
+            return found;
         }
-        i += 1;
     }
-    search_pairs::no_pair()
+    None
 }
 
 // The first two paths of at most c links each, fewest in all first, by the levels of x with y for its partner.
-fn by_total(
-    sa: &[u16; 65],
-    la: &[u16; 512],
-    ta: &[u8; 512],
-    ea: &[u64; 128],
-    sb: &[u16; 65],
-    lb: &[u16; 512],
-    tb: &[u8; 512],
-    eb: &[u64; 128],
-    z: &[u64; 64],
-    x: u8,
-    y: u8,
-    c: u8,
-) -> Pair
-    requires { Ready (view_of sa.now la.now ta.now) (view_of sb.now lb.now tb.now) x y × (c ≤ 4) × Valued ea.now × Valued eb.now }
-    ensures { Finding (view_of sa.now la.now ta.now) (view_of sb.now lb.now tb.now) z.now ea.now eb.now x y (Most c) result }
+fn by_total(a: &Side, b: &Side, z: &[u64; 64], x: u8, y: u8, c: u8) -> Option<Pair>
+    requires { (x < 64) × (y < 64) × (c ≤ 4) × Valued a.now.ends × Valued b.now.ends }
+    ensures { Finding (view a.now) (view b.now) z.now a.now.ends b.now.ends x y (Most c) (couple result) }
 {
-    let mut lefts = [0u64; 64];
-    let mut rights = [0u64; 64];
-    lefts[0] = words::only(x);
-    rights[0] = words::only(y);
+    let mut table = Table {
+        lefts: [0u64; 64],
+        rights: [0u64; 64],
+    };
+    table.lefts[0] = words::only(x);
+    table.rights[0] = words::only(y);
     let mut levels = search_levels::first_level();
-    let mut s = 0u8;
-    while s <= c + c {
-        let now = search_levels::ready(
-            sa,
-            la,
-            ta,
-            ea,
-            sb,
-            lb,
-            tb,
-            eb,
-            z,
-            &mut lefts,
-            &mut rights,
-            levels,
-            x,
-            y,
-            c,
-            s,
-        );
-        if now.none {
-            return search_pairs::no_pair();
+    for s in 0..=c + c {
+        levels = search_levels::ready(a, b, z, &mut table, levels, x, y, c, s);
+        if levels.none {
+            return None;
         }
-        let r = by_lengths(
-            sa, la, ta, ea, sb, lb, tb, eb, z, &lefts, &rights, now, x, y, c, s,
-        );
-        if r.kind != 0 {
-            return r;
+        let found = by_lengths(a, b, z, &table, levels, x, y, c, s);
+        if found.is_some() {
+            return found;
         }
-        levels = now;
-        s += 1;
     }
-    search_pairs::no_pair()
+    None
 }
 
-// The first link out of x that has no counterpart from y, or where the links out of x end.
-fn one_link(
-    sa: &[u16; 65],
-    la: &[u16; 512],
-    ta: &[u8; 512],
-    sb: &[u16; 65],
-    lb: &[u16; 512],
-    tb: &[u8; 512],
-    z: &[u64; 64],
-    x: u8,
-    y: u8,
-) -> u16
-    requires { Ready (view_of sa.now la.now ta.now) (view_of sb.now lb.now tb.now) x y }
-    ensures { Single (view_of sa.now la.now ta.now) (view_of sb.now lb.now tb.now) z.now x y result }
+// The first link out of x that has no counterpart from y.
+fn one_link(a: &Side, b: &Side, z: &[u64; 64], x: u8, y: u8) -> Option<u16>
+    requires { (x < 64) × (y < 64) }
+    ensures { Single (view a.now) (view b.now) z.now x y result }
 {
     let partner = words::only(y);
-    let until = sa[x as usize + 1];
-    let mut k = sa[x as usize];
-    while k < until {
-        let label = search_links::label(la, k);
-        let target = search_links::target(ta, k);
-        if search_steps::step(sb, lb, tb, z, partner, label, target) == 0 {
-            return k;
+    let from = a.starts[x as usize];
+    let until = a.starts[x as usize + 1];
+    for k in from..until {
+        let label = search_links::label(&a.labels, k);
+        let target = search_links::target(&a.to, k);
+        if search_steps::step(b, z, partner, label, target) == 0 {
+            return Some(k);
         }
-        k += 1;
     }
-    until
+    None
 }
 
 // The reason to part x and y, from x's side, under the relation z: row i of z has the cells related to cell i. The first link without
 // counterpart; else the first two paths of at most c links each, with fewest links in all; or none, and then the clauses hold from x's side.
-pub fn reason_for(
-    sa: &[u16; 65],
-    la: &[u16; 512],
-    ta: &[u8; 512],
-    ea: &[u64; 128],
-    sb: &[u16; 65],
-    lb: &[u16; 512],
-    tb: &[u8; 512],
-    eb: &[u64; 128],
-    z: &[u64; 64],
-    x: u8,
-    y: u8,
-    c: u8,
-) -> Reason
-    requires { Ready (view_of sa.now la.now ta.now) (view_of sb.now lb.now tb.now) x y × (c ≤ 4) × Valued ea.now × Valued eb.now }
-    ensures { Answered (view_of sa.now la.now ta.now) (view_of sb.now lb.now tb.now) z.now ea.now eb.now x y c result }
+pub fn reason_for(a: &Side, b: &Side, z: &[u64; 64], x: u8, y: u8, c: u8) -> Option<Reason>
+    requires { (x < 64) × (y < 64) × (c ≤ 4) × Valued a.now.ends × Valued b.now.ends }
+    ensures { Answered (view a.now) (view b.now) z.now a.now.ends b.now.ends x y c result }
 {
-    let link = one_link(sa, la, ta, sb, lb, tb, z, x, y);
-    if link < sa[x as usize + 1] {
-        return Reason {
-            kind: sheet::KIND_WAY,
+    match one_link(a, b, z, x, y) {
+        Some(link) => Some(Reason {
+            kind: Kind::Way,
             first: Route {
                 len: 1,
                 links: [link, 0, 0, 0],
@@ -194,14 +109,14 @@ pub fn reason_for(
                 len: 0,
                 links: [0u16; 4],
             },
-        };
-    }
-    let r = by_total(sa, la, ta, ea, sb, lb, tb, eb, z, x, y, c);
-    let first = r.first;
-    let second = r.second;
-    Reason {
-        kind: r.kind,
-        first,
-        second,
+        }),
+        None => {
+            let pair = by_total(a, b, z, x, y, c)?;
+            Some(Reason {
+                kind: pair.kind,
+                first: pair.first,
+                second: pair.second,
+            })
+        }
     }
 }

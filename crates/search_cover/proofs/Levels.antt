@@ -127,9 +127,6 @@ pub record Passed (v u : View) (z : List ℕ) (x w : ℕ) (ls rs ls' rs' : List 
   pub whole : (j : ℕ) → Leaves v x j → j < k → Covered ls' rs' 64 (to_of v j) (step_word u z w (label_of v j) (to_of v j))
 
 module _ (v u : View) (z : List ℕ) (x w : ℕ) (ls rs : List ℕ) where
-  pub passed_start : Celled ls rs → (k : ℕ) → k ≡ start_of v x → Passed v u z x w ls rs ls rs k
-  passed_start h k d = record { celled = h; kept = covered_by_has ls rs 64; whole = λ j l m. absurd (omega (arith, l.from)) }
-
   module _ (ls' rs' : List ℕ) (k : ℕ) (h : Passed v u z x w ls rs ls' rs' k) where
     pub passed-next : (a y n o : ℕ) → a ≡ label_of v k → y ≡ to_of v k → n ≡ image_of u w a → o ≡ bit_and n (get_or z y 0) → (ls'' rs'' : List ℕ) → Cut ls' rs' y o ls'' rs''
         → Passed v u z x w ls rs ls'' rs'' (k + 1)
@@ -151,12 +148,6 @@ module _ (v u : View) (z : List ℕ) (x w : ℕ) (ls rs : List ℕ) where
 
 -- ---- the cells of a table: the tips beyond those of the classes passed are covered
 module _ (v u : View) (z l r ls rs : List ℕ) where
-  pub onward_start : Celled ls rs → BeyondCells v u z l r 0 ls rs ls rs
-  onward_start h = record { celled = h; kept = covered_by_has ls rs 64; whole = λ a o k g. absurd (omega (arith, g.below)) }
-
-  pub onward-end : (n : ℕ) (ls' rs' : List ℕ) → BeyondCells v u z l r n ls rs ls' rs' → 64 ≤ n → n ≤ 64 → BeyondCells v u z l r 64 ls rs ls' rs'
-  onward-end n ls' rs' h a b = let d : 64 ≡ n = omega arith in rw d h
-
   module _ (n : ℕ) (ls' rs' : List ℕ) (h : BeyondCells v u z l r n ls rs ls' rs') (c : Celled l r) (low : n < 64) where
     -- a tip of one class more is of that class or was passed
     split : (a o : ℕ) → Has l r (n + 1) a o → ((a ≡ n) × (get_or r n 0 ≡ o) × So (bit (get_or l n 0) n)) ⊎ Has l r n a o

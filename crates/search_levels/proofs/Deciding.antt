@@ -15,8 +15,7 @@ use Rattle.search_tables.specs.Tips.{Has}
 use Rattle.search_tables.specs.Laws.{inside_refl}
 use Rattle.search_steps.specs.Paths.{Trail, end_of, ends_over}
 use Rattle.search_steps.specs.Laws.{leaves_low}
-use Rattle.search_pairs.specs.declared.Pair.{Pair}
-use Rattle.search_pairs.specs.Pairs.{fault, alone, failure, Sought}
+use Rattle.search_pairs.specs.Pairs.{fault, alone, failure, Couple, Sought}
 use Rattle.search_pairs.specs.Laws.{fault_inside}
 use Rattle.search_pairs.specs.ValueLaws.{fault_seen, fault_stands, fault-turned}
 use Rattle.search_pairs.specs.Tails.{Met, fault_of, Ahead, StandsFor}
@@ -156,7 +155,7 @@ module _ (v u : View) (z ea eb : List ℕ) (x y c i j : ℕ) (o : Opened v.start
           };
         }
 
-    pub level_none : f ≡ false → (r : Pair) → r.kind ≡ 0 → Sought v u z ea eb x y i j r
+    pub level_none : f ≡ false → (r : Couple) → r.kind ≡ 0 → Sought v u z ea eb x y i j r
     level_none e r d = record {
       found = λ n. absurd (n d);
       none = λ _. record {

@@ -118,9 +118,6 @@ module _ (v u : View) (z ea eb : List ℕ) (x y : ℕ) where
     level_next = record { sound = next-sound; whole = next_whole }
 
 -- ---- the levels as a whole
-pub fewer_left : (n a b : ℕ) → a ≤ b → (b ≡ a → ⊥) → a < n → n - b < n - a
-fewer_left n a b l f m = ⊎_elim (λ e. absurd (f (sym e))) (λ s. omega arith) (eq-or-lt_of_le l)
-
 pub end_few : (ls rs : List ℕ) (t : Levels) → Laid ls rs t → (k : ℕ) → k ≤ t.known → (n : ℕ) → n ≡ end_at t k → n ≤ 64
 end_few ls rs t l k m n d = omega (arith, l.rising k m, l.room.few)
 

@@ -3,11 +3,12 @@ use mathlib.Core.Bool.{Bool, true, false, not}
 use mathlib.Core.Path.{◌≡◌, refl, sym, ◌∙◌}
 use mathlib.Core.Logic.{◌⊎◌, inl, inr, ⊎_elim}
 use mathlib.Core.List.{List, [], ◌∷◌}
-use Prim.Native.Nat.{ℕ, zero, suc, ◌-◌, ◌≤◌}
+use Prim.Native.Nat.{ℕ, ◌-◌, ◌≤◌}
 use native.Mathlib.Nat.{pos_of_ne-zero}
 use native.Mathlib.Omega.{arith}
 use borrow.Author.Tests.{eqb-true}
 use lib.Dec.{eqb}
+use Rattle.std.proofs.lemmas.Bool.{not-false}
 use lib.ListN.{length, get_or}
 use Rattle.theory.proofs.TestLaws.{never, le-or-lt}
 use Rattle.words.specs.Words.{Inside}
@@ -21,17 +22,6 @@ use Rattle.search_steps.specs.Paths.{Trail, end_of, step_word, ends_over}
 use Rattle.search_steps.specs.Tables.{Moves, slot, last_place, Passed, Filled}
 use Rattle.search_steps.specs.Laws.{spread_inside, over_inside, part_sound, part_whole}
 use Rattle.search_levels.specs.Depths.{HasFrom, Came, Gathered}
-
--- neither none nor one
-pub two-or-more : (n : ℕ) → (n ≡ 0 → ⊥) → (n ≡ 1 → ⊥) → 2 ≤ n
-two-or-more zero f g = absurd (f refl)
-two-or-more (suc zero) f g = absurd (g refl)
-two-or-more (suc (suc n)) f g = omega arith
-
--- a test of which the denial fails
-held : (b : Bool) → not b ≡ false → b ≡ true
-held true e = refl
-held false e = never (sym e)
 
 -- of a set inside of another, what comparisons see is inside of what they see of the other
 pub seen_inside : (eb : List ℕ) (wide : Bool) (w w' : ℕ) → Inside w w' → Inside (seen_as eb wide w) (seen_as eb wide w')
@@ -59,7 +49,7 @@ module _ (v u : View) (z ea eb : List ℕ) (wide : Bool) (l r : List ℕ) (first
       seen = rw (b.leads.to, b.leads.word) e;
     })) (f.sound a o h);
     kept = f.kept;
-    whole = λ t. go (eqb-true p.next last_place (held _ (sym df ∙ t)));
+    whole = λ t. go (eqb-true p.next last_place (not-false _ (sym df ∙ t)));
   })
     where
       go : p.next ≡ last_place → (a o : ℕ) (s : List ℕ) → HasFrom l r first m a o → Trail v a s → length s ≡ 1

@@ -4,77 +4,59 @@
 #![tactic(auto)]
 
 ghost use Rattle.std.specs.Prelude.{true, false, cond, ◌≡◌, ◌+◌, ◌≤◌, ◌<◌, length};
-ghost use Rattle.search_links.specs.Hops.{view_of, Ordered};
+ghost use Rattle.search_links.specs.Sides.{view};
 ghost use Rattle.search_links.specs.Sets.{Valued};
 ghost use Rattle.search_tables.specs.Tips.{TableRoom};
-ghost use Rattle.search_pairs.specs.Pairs.{Asked, Sought};
+ghost use Rattle.search_pairs.specs.Pairs.{Asked, Sought, couple};
 ghost use Rattle.search_levels.specs.Depths.{Gathered, Laid, Standing, Became, Settled, FirstOf, Judged, silenced, only_first};
 
+use search_links::Side;
 use search_pairs::Pair;
-use search_tables::Grown;
+use search_tables::{Grown, Table};
 
 // Puts the tips of all paths of `more` links, at least one, from the classes of a table from `first` on into another, as they are or widened, as long as
 // there is room. The classes below `base` stay as they are.
 fn gather(
-    sa: &[u16; 65],
-    la: &[u16; 512],
-    ta: &[u8; 512],
-    ea: &[u64; 128],
-    sb: &[u16; 65],
-    lb: &[u16; 512],
-    tb: &[u8; 512],
-    eb: &[u64; 128],
+    a: &Side,
+    b: &Side,
     z: &[u64; 64],
     wide: bool,
-    l: &[u64; 64],
-    r: &[u64; 64],
+    from: &Table,
     first: usize,
     m: usize,
     more: u8,
-    lefts: &mut [u64; 64],
-    rights: &mut [u64; 64],
+    table: &mut Table,
     base: usize,
     n: usize,
 ) -> Grown
-    requires { Ordered (view_of sa.now la.now ta.now) × Ordered (view_of sb.now lb.now tb.now) × (m ≤ 64) × (more ≡ 0 → ⊥) × TableRoom lefts.old rights.old n × (base ≤ n) }
-    ensures { Gathered (view_of sa.now la.now ta.now) (view_of sb.now lb.now tb.now) z.now ea.now eb.now wide l.now r.now first m more lefts.old rights.old base n lefts.new rights.new result }
+    requires { (m ≤ 64) × (more ≡ 0 → ⊥) × TableRoom table.old.lefts table.old.rights n × (base ≤ n) }
+    ensures { Gathered (view a.now) (view b.now) z.now a.now.ends b.now.ends wide from.now.lefts from.now.rights first m more table.old.lefts table.old.rights base n table.new.lefts table.new.rights result }
 {
     if more == 1 {
-        let last = search_steps::fill(
-            sa, la, ta, ea, sb, lb, tb, eb, z, wide, l, r, first, m, 0, lefts, rights, base, n,
-        );
+        let last = search_steps::fill(a, b, z, wide, from, first, m, 0, table, base, n);
         return Grown {
             count: last.count,
             full: last.next != search_steps::LAST_PLACE,
         };
     }
     let mut count = n;
-    let mut ends = [0u64; 64];
-    let mut sets = [0u64; 64];
+    let mut next = Table {
+        lefts: [0u64; 64],
+        rights: [0u64; 64],
+    };
     let mut at = 0;
     while at < search_steps::LAST_PLACE {
-        let part = search_steps::fill(
-            sa, la, ta, ea, sb, lb, tb, eb, z, false, l, r, first, m, at, &mut ends, &mut sets, 0,
-            0,
-        );
+        let part = search_steps::fill(a, b, z, false, from, first, m, at, &mut next, 0, 0);
         let p = gather(
-            sa,
-            la,
-            ta,
-            ea,
-            sb,
-            lb,
-            tb,
-            eb,
+            a,
+            b,
             z,
             wide,
-            &ends,
-            &sets,
+            &next,
             0,
             part.count,
             more - 1,
-            lefts,
-            rights,
+            table,
             base,
             count,
         );
@@ -105,9 +87,8 @@ fn last_exact(t: Levels) -> usize
     if t.exact == 0 {
         return 0;
     }
-    let ends = t.ends;
     let k = t.exact as usize - 1;
-    ends[k] as usize
+    t.ends[k] as usize
 }
 
 // The last level that has its tips as they are, once there is one level more, with its tips as they are or widened.
@@ -122,53 +103,19 @@ fn exact_after(t: Levels, wide: bool) -> u8
 }
 
 // One level more, with its tips as they are or widened, or the same levels if there is no room for it.
-fn deepen(
-    sa: &[u16; 65],
-    la: &[u16; 512],
-    ta: &[u8; 512],
-    ea: &[u64; 128],
-    sb: &[u16; 65],
-    lb: &[u16; 512],
-    tb: &[u8; 512],
-    eb: &[u64; 128],
-    z: &[u64; 64],
-    lefts: &mut [u64; 64],
-    rights: &mut [u64; 64],
-    t: Levels,
-    wide: bool,
-) -> Levels
-    requires { Ordered (view_of sa.now la.now ta.now) × Ordered (view_of sb.now lb.now tb.now) × Laid lefts.old rights.old t × (t.known < 4) × (wide ≡ false → t.exact ≡ t.known) }
-    ensures { Became (view_of sa.now la.now ta.now) (view_of sb.now lb.now tb.now) z.now ea.now eb.now lefts.old rights.old t lefts.new rights.new result × (result.known ≤ t.known + 1) }
+fn deepen(a: &Side, b: &Side, z: &[u64; 64], table: &mut Table, t: Levels, wide: bool) -> Levels
+    requires { Laid table.old.lefts table.old.rights t × (t.known < 4) × (wide ≡ false → t.exact ≡ t.known) }
+    ensures { Became (view a.now) (view b.now) z.now a.now.ends b.now.ends table.old.lefts table.old.rights t table.new.lefts table.new.rights result × (result.known ≤ t.known + 1) }
 {
-    let l = *lefts;
-    let r = *rights;
+    let from = *table;
     let mut ends = t.ends;
     let known = t.known as usize;
     let exact = t.exact as usize;
     let base = ends[known] as usize;
     let m = ends[exact] as usize;
     let first = last_exact(t);
-    let g = gather(
-        sa,
-        la,
-        ta,
-        ea,
-        sb,
-        lb,
-        tb,
-        eb,
-        z,
-        wide,
-        &l,
-        &r,
-        first,
-        m,
-        t.known + 1 - t.exact,
-        lefts,
-        rights,
-        base,
-        base,
-    );
+    let more = t.known + 1 - t.exact;
+    let g = gather(a, b, z, wide, &from, first, m, more, table, base, base);
     if g.full {
         return t;
     }
@@ -177,7 +124,7 @@ fn deepen(
         ends,
         known: t.known + 1,
         exact: exact_after(t, wide),
-        none: t.none,
+        ..t
     }
 }
 
@@ -186,41 +133,28 @@ fn widens(t: Levels, c: u8, small: bool) -> bool
     requires { (t.exact ≤ t.known) × (t.known ≤ 4) }
     ensures { result ≡ false → t.exact ≡ t.known }
 {
-    if small {
-        return true;
-    }
-    if t.exact < t.known {
-        return true;
-    }
-    t.known + 1 == c
+    small || t.exact < t.known || t.known + 1 == c
 }
 
 // More levels, up to level n or until there is no room for the next. Of bound c the last is level c.
 fn reach(
-    sa: &[u16; 65],
-    la: &[u16; 512],
-    ta: &[u8; 512],
-    ea: &[u64; 128],
-    sb: &[u16; 65],
-    lb: &[u16; 512],
-    tb: &[u8; 512],
-    eb: &[u64; 128],
+    a: &Side,
+    b: &Side,
     z: &[u64; 64],
-    lefts: &mut [u64; 64],
-    rights: &mut [u64; 64],
+    table: &mut Table,
     t: Levels,
     n: u8,
     c: u8,
     small: bool,
 ) -> Levels
-    requires { Ordered (view_of sa.now la.now ta.now) × Ordered (view_of sb.now lb.now tb.now) × Laid lefts.old rights.old t × (n ≤ 4) }
-    ensures { Became (view_of sa.now la.now ta.now) (view_of sb.now lb.now tb.now) z.now ea.now eb.now lefts.old rights.old t lefts.new rights.new result }
+    requires { Laid table.old.lefts table.old.rights t × (n ≤ 4) }
+    ensures { Became (view a.now) (view b.now) z.now a.now.ends b.now.ends table.old.lefts table.old.rights t table.new.lefts table.new.rights result }
 {
     let mut at = t;
     while at.known < n {
         let known = at.known;
         let wide = widens(at, c, small);
-        let next = deepen(sa, la, ta, ea, sb, lb, tb, eb, z, lefts, rights, at, wide);
+        let next = deepen(a, b, z, table, at, wide);
         if next.known == known {
             return next;
         }
@@ -230,115 +164,72 @@ fn reach(
 }
 
 // The same levels, which say that no two paths of at most c links fail if they reach so far and no two of their tips do.
-fn judged(
-    ea: &[u64; 128],
-    eb: &[u64; 128],
-    lefts: &[u64; 64],
-    rights: &[u64; 64],
-    t: Levels,
-    c: u8,
-) -> Levels
-    requires { Laid lefts.now rights.now t × Valued ea.now × Valued eb.now }
-    ensures { Judged ea.now eb.now c lefts.now rights.now t result }
+fn judged(ea: &[u64; 128], eb: &[u64; 128], table: &Table, t: Levels, c: u8) -> Levels
+    requires { Laid table.now.lefts table.now.rights t × Valued ea.now × Valued eb.now }
+    ensures { Judged ea.now eb.now c table.now.lefts table.now.rights t result }
 {
     if t.known < c {
         return t;
     }
-    let ends = t.ends;
-    let n = ends[c as usize] as usize;
-    let fails = search_pairs::two_tips(ea, eb, lefts, rights, n, lefts, rights, n);
-    Levels {
-        ends,
-        known: t.known,
-        exact: t.exact,
-        none: !fails,
-    }
+    let n = t.ends[c as usize] as usize;
+    let fails = search_pairs::two_tips(ea, eb, table, n, table, n);
+    Levels { none: !fails, ..t }
 }
 
 // The same levels, which say that no two paths fail.
 fn quiet(t: Levels) -> Levels
     ensures { result ≡ silenced t }
 {
-    let ends = t.ends;
-    Levels {
-        ends,
-        known: t.known,
-        exact: t.exact,
-        none: true,
-    }
+    Levels { none: true, ..t }
 }
 
 // All levels up to level c, as far as there is room for them; and whether they, or one tip a cell where some are too large, tell that no two paths fail.
 fn all_levels(
-    sa: &[u16; 65],
-    la: &[u16; 512],
-    ta: &[u8; 512],
-    ea: &[u64; 128],
-    sb: &[u16; 65],
-    lb: &[u16; 512],
-    tb: &[u8; 512],
-    eb: &[u64; 128],
+    a: &Side,
+    b: &Side,
     z: &[u64; 64],
-    lefts: &mut [u64; 64],
-    rights: &mut [u64; 64],
+    table: &mut Table,
     t: Levels,
     x: u8,
     y: u8,
     c: u8,
 ) -> Levels
-    requires { Asked (view_of sa.now la.now ta.now) (view_of sb.now lb.now tb.now) ea.now eb.now x y c c × Laid lefts.old rights.old t × Standing (view_of sa.now la.now ta.now) (view_of sb.now lb.now tb.now) z.now ea.now eb.now x y c lefts.old rights.old t }
-    ensures { Laid lefts.new rights.new result × Standing (view_of sa.now la.now ta.now) (view_of sb.now lb.now tb.now) z.now ea.now eb.now x y c lefts.new rights.new result }
+    requires { Asked (view a.now) (view b.now) a.now.ends b.now.ends x y c c × Laid table.old.lefts table.old.rights t × Standing (view a.now) (view b.now) z.now a.now.ends b.now.ends x y c table.old.lefts table.old.rights t }
+    ensures { Laid table.new.lefts table.new.rights result × Standing (view a.now) (view b.now) z.now a.now.ends b.now.ends x y c table.new.lefts table.new.rights result }
 {
-    let whole = reach(
-        sa, la, ta, ea, sb, lb, tb, eb, z, lefts, rights, t, c, c, false,
-    );
+    let whole = reach(a, b, z, table, t, c, c, false);
     if whole.known < c {
-        if search_cover::by_cells(sa, la, ta, ea, sb, lb, tb, eb, z, x, y, c) {
+        if search_cover::by_cells(a, b, z, x, y, c) {
             return quiet(whole);
         }
-        let wide = reach(
-            sa, la, ta, ea, sb, lb, tb, eb, z, lefts, rights, whole, c, c, true,
-        );
-        return judged(ea, eb, lefts, rights, wide, c);
+        let wide = reach(a, b, z, table, whole, c, c, true);
+        return judged(&a.ends, &b.ends, table, wide, c);
     }
-    judged(ea, eb, lefts, rights, whole, c)
+    judged(&a.ends, &b.ends, table, whole, c)
 }
 
 // The levels that are asked for two paths of s links in all: those of so many links for less than 3, which are soon looked through; then all.
 pub fn ready(
-    sa: &[u16; 65],
-    la: &[u16; 512],
-    ta: &[u8; 512],
-    ea: &[u64; 128],
-    sb: &[u16; 65],
-    lb: &[u16; 512],
-    tb: &[u8; 512],
-    eb: &[u64; 128],
+    a: &Side,
+    b: &Side,
     z: &[u64; 64],
-    lefts: &mut [u64; 64],
-    rights: &mut [u64; 64],
+    table: &mut Table,
     t: Levels,
     x: u8,
     y: u8,
     c: u8,
     s: u8,
 ) -> Levels
-    requires { Asked (view_of sa.now la.now ta.now) (view_of sb.now lb.now tb.now) ea.now eb.now x y c c × Laid lefts.old rights.old t × Standing (view_of sa.now la.now ta.now) (view_of sb.now lb.now tb.now) z.now ea.now eb.now x y c lefts.old rights.old t }
-    ensures { Laid lefts.new rights.new result × Standing (view_of sa.now la.now ta.now) (view_of sb.now lb.now tb.now) z.now ea.now eb.now x y c lefts.new rights.new result }
+    requires { Asked (view a.now) (view b.now) a.now.ends b.now.ends x y c c × Laid table.old.lefts table.old.rights t × Standing (view a.now) (view b.now) z.now a.now.ends b.now.ends x y c table.old.lefts table.old.rights t }
+    ensures { Laid table.new.lefts table.new.rights result × Standing (view a.now) (view b.now) z.now a.now.ends b.now.ends x y c table.new.lefts table.new.rights result }
 {
     if 3 < s {
         return t;
     }
     if s == 3 {
-        return all_levels(sa, la, ta, ea, sb, lb, tb, eb, z, lefts, rights, t, x, y, c);
+        return all_levels(a, b, z, table, t, x, y, c);
     }
-    let mut n = c;
-    if s < c {
-        n = s;
-    }
-    reach(
-        sa, la, ta, ea, sb, lb, tb, eb, z, lefts, rights, t, n, c, false,
-    )
+    reach(a, b, z, table, t, s.min(c), c, false)
 }
 
 // The levels of the table with the one tip (x, {y}): level 0.
@@ -355,37 +246,27 @@ pub fn first_level() -> Levels
 
 // The first two paths of i and j links from x that fail, where no two of fewer links in all do: by the levels, as far as they reach.
 pub fn pair_at(
-    sa: &[u16; 65],
-    la: &[u16; 512],
-    ta: &[u8; 512],
-    ea: &[u64; 128],
-    sb: &[u16; 65],
-    lb: &[u16; 512],
-    tb: &[u8; 512],
-    eb: &[u64; 128],
+    a: &Side,
+    b: &Side,
     z: &[u64; 64],
-    lefts: &[u64; 64],
-    rights: &[u64; 64],
+    table: &Table,
     t: Levels,
     x: u8,
     y: u8,
     c: u8,
     i: u8,
     j: u8,
-) -> Pair
-    requires { Asked (view_of sa.now la.now ta.now) (view_of sb.now lb.now tb.now) ea.now eb.now x y i j × (i ≤ j) × (j ≤ c) × Laid lefts.now rights.now t × Standing (view_of sa.now la.now ta.now) (view_of sb.now lb.now tb.now) z.now ea.now eb.now x y c lefts.now rights.now t × Settled (view_of sa.now la.now ta.now) (view_of sb.now lb.now tb.now) z.now ea.now eb.now x y c (i + j) }
-    ensures { Sought (view_of sa.now la.now ta.now) (view_of sb.now lb.now tb.now) z.now ea.now eb.now x y i j result }
+) -> Option<Pair>
+    requires { Asked (view a.now) (view b.now) a.now.ends b.now.ends x y i j × (i ≤ j) × (j ≤ c) × Laid table.now.lefts table.now.rights t × Standing (view a.now) (view b.now) z.now a.now.ends b.now.ends x y c table.now.lefts table.now.rights t × Settled (view a.now) (view b.now) z.now a.now.ends b.now.ends x y c (i + j) }
+    ensures { Sought (view a.now) (view b.now) z.now a.now.ends b.now.ends x y i j (couple result) }
 {
     if t.known < j {
-        return search_pairs::two_paths(sa, la, ta, ea, sb, lb, tb, eb, z, x, y, i, j);
+        return search_pairs::two_paths(a, b, z, x, y, i, j);
     }
-    let ends = t.ends;
-    let pn = ends[i as usize] as usize;
-    let qn = ends[j as usize] as usize;
-    if search_pairs::two_tips(ea, eb, lefts, rights, pn, lefts, rights, qn) {
-        return search_pairs::first_pair(
-            sa, la, ta, ea, sb, lb, tb, eb, z, x, y, i, j, lefts, rights, qn, 0,
-        );
+    let pn = t.ends[i as usize] as usize;
+    let qn = t.ends[j as usize] as usize;
+    if search_pairs::two_tips(&a.ends, &b.ends, table, pn, table, qn) {
+        return search_pairs::first_pair(a, b, z, x, y, i, j, table, qn, 0);
     }
-    search_pairs::no_pair()
+    None
 }

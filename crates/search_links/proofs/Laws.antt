@@ -3,8 +3,8 @@
 use mathlib.Core.Bool.{Bool, true, false, So, not, ◌&&◌, ◌||◌, or-false, or_assoc}
 use mathlib.Core.Path.{◌≡◌, refl, sym, ap, ap₂, ◌∙◌}
 use mathlib.Core.Logic.{inl, inr, ⊎_elim}
-use mathlib.Core.List.{List}
-use Prim.Native.Nat.{ℕ, zero, suc, ◌+◌, ◌-◌, ◌*◌, ◌^◌, ◌≤◌, ◌<◌}
+use mathlib.Core.List.{List, ◌++◌}
+use Prim.Native.Nat.{ℕ, zero, suc, ◌+◌, ◌-◌, ◌*◌, ◌^◌, ◌≤◌, ◌<◌, min}
 use native.Mathlib.Nat.{eq-or-lt_of_le}
 use native.Mathlib.Numerals.{add-one}
 use native.Mathlib.Omega.{arith}
@@ -13,11 +13,12 @@ use lib.Bits.{bit_or, bit_xor}
 use lib.Dec.{eqb}
 use lib.ListN.{length, get_or, set, length-set}
 use lib.Seq.{get_or-set_same, get_or-set_other}
+use Rattle.std.proofs.lemmas.List.{get_or_append_left, get_or-append_right}
 use Rattle.theory.specs.Search.{any}
 use Rattle.theory.proofs.TestLaws.{never, le-or-lt, and_iff, or_iff, facts, test_eq}
 use Rattle.words.specs.Words.{bit, word_of, IsLowest, IsWithout, IsMinus}
 use Rattle.words.specs.Laws.{bit-or, bit-zero, bit-pow, bit_without, word_of_is, first_stop, first-end, first_next}
-use Rattle.search_links.specs.Hops.{View, start_of, label_of, to_of, hops_from, Opened, Ordered, Smaller, every_label, LeastLabel, lead, Starts}
+use Rattle.search_links.specs.Hops.{View, start_of, label_of, to_of, hops_from, Opened, Ordered, every_label, LeastLabel, lead, Starts}
 use Rattle.search_links.specs.Sets.{among, reached, meets, spread, row_at, Paired, Valued}
 use Rattle.search_links.specs.Laws.{until_few, link_low}
 use Rattle.search_links.specs.BookHopLaws.{lead-le, lead-rises}
@@ -208,12 +209,12 @@ module _ (v : View) (x least : ℕ) where
       pub above_on : (i : ℕ) → k ≤ i → i < until → least ≤ label_of v i
       above_on i p q = omega (arith, o.rising x k i low u.from p (omega arith))
 
-      pub least_found : (best r : ℕ) → found < every_label → Smaller found best r → LeastLabel v x least best r
+      pub least_found : (best r : ℕ) → found < every_label → r ≡ min found best → LeastLabel v x least best r
       least_found best r few m = record {
-        onward = λ l. ⊎_elim (λ e. omega arith) (λ e. omega arith) m.one;
-        most = m.second;
-        none = λ j a b l. ⊎_elim (λ q. (omega (arith, m.first, o.rising x k j low u.from q b), omega (arith, m.first))) (λ q. absurd (omega (arith, u.each j a q))) (le-or-lt k j);
-        one = ⊎_elim (λ e. inr (k, u.from, omega arith, omega arith, sym (e ∙ is))) (λ e. inl e) m.one;
+        onward = λ l. omega arith;
+        most = omega arith;
+        none = λ j a b l. ⊎_elim (λ q. (omega (arith, o.rising x k j low u.from q b), omega arith)) (λ q. absurd (omega (arith, u.each j a q))) (le-or-lt k j);
+        one = ⊎_elim (λ e. inr (k, u.from, omega arith, omega arith, omega arith)) (λ e. inl (omega arith)) (le-or-lt found best);
       }
 
 -- ---- the nodes that some links lead to
@@ -264,47 +265,10 @@ pub reach_low : (ts : List ℕ) (until k : ℕ) → Reach ts until → k < until
 reach_low ts until k r h = r.low k h
 
 -- ---- both comparisons in one table
-pub record Placed (same differ rows : List ℕ) (x : ℕ) : Type 0 where
-  pub long : length rows ≡ 128
-  pub first : (j : ℕ) → j < x → get_or rows j 0 ≡ get_or same j 0
-  pub second : (j : ℕ) → j < x → get_or rows (j + 64) 0 ≡ get_or differ j 0
-
-module _ (same differ rows : List ℕ) where
-  pub placed_none : length rows ≡ 128 → Placed same differ rows 0
-  placed_none l = record { long = l; first = λ j h. absurd (omega arith); second = λ j h. absurd (omega arith) }
-
-  module _ (x : ℕ) (p : Placed same differ rows x) where
-    module _ (h : x < 64) (once : List ℕ) (d : once ≡ set rows x (get_or same x 0)) where
-      wide : length once ≡ 128
-      wide = rw d (length-set rows x (get_or same x 0) ∙ p.long)
-
-      at_x : get_or once x 0 ≡ get_or same x 0
-      at_x = rw d (get_or-set_same rows x (get_or same x 0) 0 (omega (arith, p.long)))
-
-      other : (j : ℕ) → (j ≡ x → ⊥) → get_or once j 0 ≡ get_or rows j 0
-      other j f = rw d (get_or-set_other rows x j (get_or same x 0) 0 f)
-
-      placed_second : Placed same differ (set once (x + 64) (get_or differ x 0)) (x + 1)
-      placed_second = record {
-        long = length-set once (x + 64) (get_or differ x 0) ∙ wide;
-        first = λ j m.
-            get_or-set_other once (x + 64) j (get_or differ x 0) 0 (λ q. omega arith)
-            ∙ ⊎_elim (λ q. rw q at_x) (λ l. other j (λ q. omega arith) ∙ p.first j l) (eq-or-lt_of_le (under j m));
-        second = λ j m.
-            ⊎_elim
-            (λ q. rw q (get_or-set_same once (x + 64) (get_or differ x 0) 0 (omega (arith, wide))))
-            (λ l. get_or-set_other once (x + 64) (j + 64) (get_or differ x 0) 0 (λ q. omega arith) ∙ other (j + 64) (λ q. omega arith) ∙ p.second j l)
-            (eq-or-lt_of_le (under j m));
-      }
-        where
-          under : (j : ℕ) → j < x + 1 → j ≤ x
-          under j m = omega arith
-
-    pub placed-more : x < 64 → Placed same differ (set (set rows x (get_or same x 0)) (x + 64) (get_or differ x 0)) (x + 1)
-    placed-more h = placed_second h _ refl
-
-    pub placed_all : 64 ≤ x → Paired same differ rows
-    placed_all h = record {
-      first = λ j l. let e : 64 * 0 + j ≡ j = omega arith in rw e (p.first j (omega arith));
-      second = λ j l. let e : 64 * 1 + j ≡ j + 64 = omega arith in rw e (p.second j (omega arith));
-    }
+pub paired_join : (same differ first second : List ℕ) → length same ≡ 64 → first ≡ same → second ≡ differ → Paired same differ (first ++ second)
+paired_join same differ first second l p q = record {
+  first = λ x h. let e : 64 * 0 + x ≡ x = omega arith in rw (p, e) (get_or_append_left same second 0 x (omega arith));
+  second = λ x h.
+      let e : 64 * 1 + x - 64 ≡ x = omega arith in
+      rw (p, q) (get_or-append_right same differ 64 (64 * 1 + x) 0 l (omega arith) ∙ ap (λ (i : ℕ). get_or differ i 0) e);
+}

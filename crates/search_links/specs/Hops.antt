@@ -53,12 +53,6 @@ pub record Ordered (v : View) : Type 0 where
   pub opened : Opened v.starts v.to
   pub rising : (x j k : ℕ) → x < 64 → start_of v x ≤ j → j ≤ k → k < start_of v (x + 1) → label_of v j ≤ label_of v k
 
--- The smaller of two numbers.
-pub record Smaller (a b r : ℕ) : Type 0 where
-  pub first : r ≤ a
-  pub second : r ≤ b
-  pub one : (r ≡ a) ⊎ (r ≡ b)
-
 -- How many labels there can be: each is below.
 abbrev pub every_label : ℕ
 every_label = 65536

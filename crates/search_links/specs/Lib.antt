@@ -1,4 +1,5 @@
 pub mod Hops
 pub mod Sets
+pub mod Sides
 pub mod Laws
 pub mod BookHopLaws

@@ -2,28 +2,47 @@
 // carried along them as words. Nothing here knows a book's bytes: `edges` loads them.
 #![tactic(auto)]
 
-ghost use Rattle.std.specs.Prelude.{◌≡◌, ◌≤◌, ◌<◌, get_or};
-ghost use Rattle.search_links.specs.Hops.{view_of, hops_of, lead, Smaller, Starts, Opened, Ordered, LeastLabel};
+ghost use Rattle.std.specs.Prelude.{ℕ, ◌≡◌, ◌*◌, ◌≤◌, ◌<◌, get_or};
+ghost use Rattle.search_links.specs.Hops.{hops_of, lead, Starts, Opened, LeastLabel};
 ghost use Rattle.search_links.specs.Sets.{reached, RowBy, leads_to, spread, image_of, row_at, Paired, Valued, seen_as};
+ghost use Rattle.search_links.specs.Sides.{view, half};
 
-// The comparisons, by their place among the rows of the cells that pass one: those of same come first.
-pub const SAME: u8 = 0;
+pub use side::Side;
 
-pub const DIFFER: u8 = 1;
+mod side;
+
+// Which half of a table of 128 rows: the rows from 0 on, or those from 64 on.
+#[derive(Clone, Copy, PartialEq, Eq, Debug)]
+pub enum Half {
+    Low = 0,
+    High = 1,
+}
+
+impl Half {
+    // The first of its rows.
+    pub fn start(self) -> usize
+        ensures { result ≡ 64 * half self }
+    {
+        64 * (self as usize)
+    }
+}
+
+// The comparisons, by the half that has the rows of the cells that pass one: those of same come first.
+pub const SAME: Half = Half::Low;
+
+pub const DIFFER: Half = Half::High;
 
 // The first link from cell x or a later one, where no link before k is.
 fn lead_from(count: usize, from: &[u8; 512], k: usize, x: u8) -> usize
     requires { (count ≤ 512) × (k ≤ lead count from.now x) }
     ensures { result ≡ lead count from.now x }
 {
-    let mut at = k;
-    while at < count {
+    for at in k..count {
         if x <= from[at] {
             return at;
         }
-        at += 1;
     }
-    at
+    count
 }
 
 // The table of starts of `count` links in the order of their from cells: the links out of cell x are those from starts[x] up to
@@ -34,11 +53,9 @@ pub fn starts(count: usize, from: &[u8; 512]) -> [u16; 65]
 {
     let mut table = [0u16; 65];
     let mut k: usize = 0;
-    let mut x: u8 = 0;
-    while x < 65 {
-        k = lead_from(count, from, k, x);
-        table[x as usize] = k as u16;
-        x += 1;
+    for x in 0..65 {
+        k = lead_from(count, from, k, x as u8);
+        table[x] = k as u16;
     }
     table
 }
@@ -59,36 +76,17 @@ pub fn target(to: &[u8; 512], k: u16) -> u8
     to[k as usize]
 }
 
-// The smaller of two numbers.
-fn smaller(a: usize, b: usize) -> usize
-    ensures { Smaller a b result }
-{
-    if a < b {
-        return a;
-    }
-    b
-}
-
 // Of the labels from `least` on of the links out of cell x, and of `best`, the smallest.
-pub fn least_label(
-    starts: &[u16; 65],
-    labels: &[u16; 512],
-    to: &[u8; 512],
-    x: u8,
-    least: usize,
-    best: usize,
-) -> usize
-    requires { Ordered (view_of starts.now labels.now to.now) × (x < 64) }
-    ensures { LeastLabel (view_of starts.now labels.now to.now) x least best result }
+pub fn least_label(a: &Side, x: u8, least: usize, best: usize) -> usize
+    requires { x < 64 }
+    ensures { LeastLabel (view a.now) x least best result }
 {
-    let until = starts[x as usize + 1];
-    let mut k = starts[x as usize];
-    while k < until {
-        let found = label(labels, k) as usize;
+    let until = a.starts[x as usize + 1];
+    for k in a.starts[x as usize]..until {
+        let found = label(&a.labels, k) as usize;
         if least <= found {
-            return smaller(found, best);
+            return found.min(best);
         }
-        k += 1;
     }
     best
 }
@@ -101,42 +99,33 @@ pub struct LabelRow {
 }
 
 // The cells that a link with the label `by` leads to from cell x; and of the labels above it of the links out of x, and of `best`, the smallest.
-pub fn row_by(
-    starts: &[u16; 65],
-    labels: &[u16; 512],
-    to: &[u8; 512],
-    x: u8,
-    by: u16,
-    best: usize,
-) -> LabelRow
-    requires { Ordered (view_of starts.now labels.now to.now) × (x < 64) }
-    ensures { RowBy (view_of starts.now labels.now to.now) x by best result }
+pub fn row_by(a: &Side, x: u8, by: u16, best: usize) -> LabelRow
+    requires { x < 64 }
+    ensures { RowBy (view a.now) x by best result }
 {
-    let until = starts[x as usize + 1];
-    let mut k = starts[x as usize];
+    let until = a.starts[x as usize + 1];
     let mut set: u64 = 0;
-    while k < until {
-        let found = label(labels, k);
+    for k in a.starts[x as usize]..until {
+        let found = label(&a.labels, k);
         if by < found {
             return LabelRow {
                 set,
-                next: smaller(found as usize, best),
+                next: (found as usize).min(best),
             };
         }
         if found == by {
-            set = words::with(set, to[k as usize]);
+            set = words::with(set, target(&a.to, k));
         }
-        k += 1;
     }
     LabelRow { set, next: best }
 }
 
 // The cells that a link with the label leads to from cell x.
-pub fn targets(starts: &[u16; 65], labels: &[u16; 512], to: &[u8; 512], x: u8, label: u16) -> u64
-    requires { Ordered (view_of starts.now labels.now to.now) × (x < 64) }
-    ensures { result ≡ reached (hops_of (view_of starts.now labels.now to.now) x) label }
+pub fn targets(a: &Side, x: u8, label: u16) -> u64
+    requires { x < 64 }
+    ensures { result ≡ reached (hops_of (view a.now) x) label }
 {
-    let row = row_by(starts, labels, to, x, label, 0);
+    let row = row_by(a, x, label, 0);
     row.set
 }
 
@@ -146,30 +135,35 @@ pub fn leads(starts: &[u16; 65], to: &[u8; 512], x: u8, w: u64) -> bool
     ensures { result ≡ leads_to starts.now to.now w x }
 {
     let until = starts[x as usize + 1];
-    let mut k = starts[x as usize];
-    while k < until {
-        if words::has(w, to[k as usize]) {
+    for k in starts[x as usize]..until {
+        if words::has(w, target(to, k)) {
             return true;
         }
-        k += 1;
     }
     false
 }
 
-// The cells that a link with the label leads to from a cell of w.
-pub fn image(starts: &[u16; 65], labels: &[u16; 512], to: &[u8; 512], w: u64, label: u16) -> u64
-    requires { Ordered (view_of starts.now labels.now to.now) }
-    ensures { result ≡ image_of (view_of starts.now labels.now to.now) w label }
+// The union of the rows that a rule gives for the cells of w.
+fn spread<F: Fn(u8) -> u64>(w: u64, rule: F) -> u64
+    requires { (x : ℕ) → x < 64 → F.pre rule x }
+    ensures { (f : ℕ → ℕ) → ((x r : ℕ) → x < 64 → F.post rule x r → r ≡ f x) → result ≡ spread f w }
 {
     let mut out: u64 = 0;
     let mut left = w;
     while left != 0 {
         let x = words::lowest(left);
-        let more = targets(starts, labels, to, x, label);
+        let more = rule(x);
         out = words::union(out, more);
         left = words::without(left, x);
     }
     out
+}
+
+// The cells that a link with the label leads to from a cell of w.
+pub fn image(a: &Side, w: u64, label: u16) -> u64
+    ensures { result ≡ image_of (view a.now) w label }
+{
+    spread(w, |x| targets(a, x, label))
 }
 
 // Rows of both comparisons in one table: row x of `same` at x, row x of `differ` at 64 + x.
@@ -177,43 +171,31 @@ pub fn paired(same: &[u64; 64], differ: &[u64; 64]) -> [u64; 128]
     ensures { Paired same.now differ.now result }
 {
     let mut rows = [0u64; 128];
-    let mut x: usize = 0;
-    while x < 64 {
-        rows[x] = same[x];
-        rows[x + 64] = differ[x];
-        x += 1;
-    }
+    let (first, second) = rows.split_at_mut(64);
+    first.copy_from_slice(same);
+    second.copy_from_slice(differ);
     rows
 }
 
-// Row x of comparison t: 0 same, 1 differ.
-pub fn row(ends: &[u64; 128], t: u8, x: u8) -> u64
-    requires { (t < 2) × (x < 64) }
-    ensures { result ≡ row_at ends.now t x }
+// Row x of a half of a table: of comparison t, where the table has the rows of both.
+pub fn row(ends: &[u64; 128], t: Half, x: u8) -> u64
+    requires { x < 64 }
+    ensures { result ≡ row_at ends.now (half t) x }
 {
-    ends[64 * (t as usize) + (x as usize)]
+    ends[t.start() + (x as usize)]
 }
 
 // The cells that pass comparison t with some cell of w.
-pub fn passing(ends: &[u64; 128], t: u8, w: u64) -> u64
-    requires { t < 2 }
-    ensures { result ≡ spread (row_at ends.now t) w }
+pub fn passing(ends: &[u64; 128], t: Half, w: u64) -> u64
+    ensures { result ≡ spread (row_at ends.now (half t)) w }
 {
-    let mut out: u64 = 0;
-    let mut left = w;
-    while left != 0 {
-        let x = words::lowest(left);
-        let more = row(ends, t, x);
-        out = words::union(out, more);
-        left = words::without(left, x);
-    }
-    out
+    spread(w, |x| row(ends, t, x))
 }
 
 // The same of comparisons that go by a value: of the cells of w that pass same with each other one is asked.
-pub fn by_value(ends: &[u64; 128], t: u8, w: u64) -> u64
-    requires { (t < 2) × Valued ends.now }
-    ensures { result ≡ spread (row_at ends.now t) w }
+pub fn by_value(ends: &[u64; 128], t: Half, w: u64) -> u64
+    requires { Valued ends.now }
+    ensures { result ≡ spread (row_at ends.now (half t)) w }
 {
     let mut out: u64 = 0;
     let mut left = w;

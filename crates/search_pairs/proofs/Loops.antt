@@ -19,8 +19,7 @@ use Rattle.search_steps.specs.Tables.{Moves, slot, last_place, Passed, Filled}
 use Rattle.search_steps.specs.Laws.{leaves_below, leaves_low, over_inside, part_sound, part_whole}
 use Rattle.search_pairs.specs.declared.Route.{Route}
 use Rattle.search_pairs.specs.declared.Tail.{Tail}
-use Rattle.search_pairs.specs.declared.Pair.{Pair}
-use Rattle.search_pairs.specs.Pairs.{fault, alone, failure, links_in, Before, Sought}
+use Rattle.search_pairs.specs.Pairs.{fault, alone, failure, links_in, Before, Couple, Sought}
 use Rattle.search_pairs.specs.Laws.{fault_inside}
 use Rattle.search_pairs.specs.Tails.{no_links, Prepended, Met, fault_of, Hit, Safe, Hitting, Searched, Ahead, Barren, Told, Next, Foremost, StandsFor}
 
@@ -157,6 +156,15 @@ module _ (v u : View) (z ea eb : List ℕ) (turned : Bool) (ql qr : List ℕ) (q
     pub record LinksTo (k : ℕ) : Type 0 where
       pub each : (i : ℕ) → Leaves v x i → i < k → Barren v u z ea eb turned (to_of v i) (step_word u z w (label_of v i) (to_of v i)) d ql qr qn j
 
+    -- such a path begins with a link
+    pub ahead_leaves : Ahead v u z ea eb turned x w (d + 1) ql qr qn j → start_of v x < start_of v (x + 1)
+    unfolding Trail
+    ahead_leaves a = go a.path a.trail a.long
+      where
+        go : (p : List ℕ) → Trail v x p → length p ≡ d + 1 → start_of v x < start_of v (x + 1)
+        go [] t l = absurd (omega arith)
+        go (i ∷ p) (t, r) l = omega (arith, t.from, t.until)
+
     pub links_start : (k : ℕ) → k ≡ start_of v x → LinksTo k
     links_start k e = record { each = λ i l m. absurd (omega (arith, l.from)) }
 
@@ -266,7 +274,7 @@ one_stands v u z ea eb ls rs x y a b da db low ll lr i j = record {
 }
 
 module _ (v u : View) (z ea eb : List ℕ) (x y i j : ℕ) (ql qr : List ℕ) (qn rest : ℕ) (stands : StandsFor v u z ea eb x y i j ql qr qn rest) where
-  pub sought_none : (b : ℕ) → b ≡ 2 ^ y → (f : Bool) → f ≡ false → Told v u z ea eb false x b i ql qr qn rest f → (r : Pair) → r.kind ≡ 0 → Sought v u z ea eb x y i j r
+  pub sought_none : (b : ℕ) → b ≡ 2 ^ y → (f : Bool) → f ≡ false → Told v u z ea eb false x b i ql qr qn rest f → (r : Couple) → r.kind ≡ 0 → Sought v u z ea eb x y i j r
   sought_none b db f e t r d = record {
     found = λ n. absurd (n d);
     none = λ _. record { each = λ p q tp lp tq lq. stands.none p tp lp (rw db at ((t.none e).each p tp lp)) q tq lq };
@@ -300,13 +308,13 @@ module _ (v u : View) (z ea eb : List ℕ) (x y i j : ℕ) (ql qr : List ℕ) (q
         }
 
     module _ (q : Tail) (g : Foremost v u z ea eb true x b j (set ls 0 a) (set rs 0 p.word) 1 0 q) (k : ℕ) (dk : k ≡ fault ea eb p.cell p.word q.cell q.word) where
-      fails_so : fault ea eb p.cell p.word q.cell q.word ≡ 0 → ⊥
+      pub fails_so : fault ea eb p.cell p.word q.cell q.word ≡ 0 → ⊥
       unfolding end_of ends_over fault_of
       fails_so =
           let (dx, dw) = one_only ls rs p.cell p.word a p.word da refl ll lr _ _ g.hit.runs.has in
           rw (empty g.hit.path g.hit.runs.long, dx, dw) at g.hit.fails
 
-      pub sought_some : (r : Pair) → r.kind ≡ k → r.first ≡ p.path → r.second ≡ q.path → Sought v u z ea eb x y i j r
+      pub sought_some : (r : Couple) → r.kind ≡ k → r.first ≡ p.path → r.second ≡ q.path → Sought v u z ea eb x y i j r
       unfolding Trail end_of ends_over failure alone fault fault_of
       sought_some r dr dp dq = rw (dr, dp, dq) (record {
         found = λ _. record {

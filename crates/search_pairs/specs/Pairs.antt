@@ -1,5 +1,5 @@
 -- Two paths without counterpart, over the words that the search computes.
-use Rattle.std.specs.Prelude.{Bool, cond, not, ◌&&◌, ◌||◌, ◌⊎◌, ◌≡◌, List, [], ◌∷◌, ℕ, ◌^◌, ◌≤◌, ◌<◌, eqb, length, get_or, take}
+use Rattle.std.specs.Prelude.{Bool, cond, not, ◌&&◌, ◌||◌, ◌⊎◌, ◌≡◌, List, [], ◌∷◌, ℕ, ◌^◌, ◌≤◌, ◌<◌, eqb, length, get_or, take, replicate, Option, Some, None}
 use Rattle.std.specs.Int.Bits.{bit_and}
 use Rattle.words.specs.Words.{bit}
 use Rattle.search_links.specs.Hops.{View, Ordered}
@@ -7,7 +7,9 @@ use Rattle.search_links.specs.Sets.{spread, row_at, Valued}
 use Rattle.search_steps.specs.Paths.{Trail, end_of, ends_over}
 use Rattle.search_pairs.specs.declared.Wanted.{Wanted}
 use Rattle.search_pairs.specs.declared.Route.{Route}
-use Rattle.search_pairs.specs.declared.Pair.{Pair}
+use Rattle.search_pairs.specs.declared.pair.Pair.{Pair}
+use Rattle.sheet.specs.Entry.{kind_number}
+use Rattle.sheet.specs.declared.Kind.{Kind}
 
 -- The kind of entry by which two paths fail (01: kind 5 same, 6 differ), and 0 where they do not.
 unfoldable pub kind_of : Bool → Bool → ℕ
@@ -55,6 +57,22 @@ pub record Shaped (d : ℕ) (w : Route) : Type 0 where
   pub long : w.len ≡ d
   pub room : length w.links ≡ 4
 
+-- Two paths and the kind by which they fail; 0 where there are none.
+pub record Couple : Type 0 where
+  pub kind : ℕ
+  pub first : Route
+  pub second : Route
+
+-- The number of a kind, and 0 where there is none.
+abbrev pub kind_in : Option Kind → ℕ
+kind_in None = 0
+kind_in (Some k) = kind_number k
+
+-- The two paths that there are, or that there are none.
+abbrev pub couple : Option Pair → Couple
+couple None = record { kind = 0; first = record { len = 0; links = replicate 4 0 }; second = record { len = 0; links = replicate 4 0 } }
+couple (Some p) = record { kind = kind_number p.kind; first = p.first; second = p.second }
+
 -- The path p comes before q, of as many links, in the order of the links.
 unfoldable pub Before : List ℕ → List ℕ → Type 0
 Before [] q = ⊥
@@ -66,7 +84,7 @@ pub record Clear (v u : View) (z ea eb : List ℕ) (x y i j : ℕ) : Type 0 wher
   pub each : (p q : List ℕ) → Trail v x p → length p ≡ i → Trail v x q → length q ≡ j → failure v u z ea eb x y p q ≡ 0
 
 -- The two paths are of i and j links, and fail by their kind; none with a first path before theirs do, nor with theirs and a second before.
-pub record Shown (v u : View) (z ea eb : List ℕ) (x y i j : ℕ) (r : Pair) : Type 0 where
+pub record Shown (v u : View) (z ea eb : List ℕ) (x y i j : ℕ) (r : Couple) : Type 0 where
   pub first : Shaped i r.first × Trail v x (links_in r.first)
   pub second : Shaped j r.second × Trail v x (links_in r.second)
   pub fails : r.kind ≡ failure v u z ea eb x y (links_in r.first) (links_in r.second)
@@ -74,7 +92,7 @@ pub record Shown (v u : View) (z ea eb : List ℕ) (x y i j : ℕ) (r : Pair) : 
   pub next : (q : List ℕ) → Trail v x q → length q ≡ j → Before q (links_in r.second) → failure v u z ea eb x y (links_in r.first) q ≡ 0
 
 -- The first two paths of i and j links that fail, or that there are none.
-pub record Sought (v u : View) (z ea eb : List ℕ) (x y i j : ℕ) (r : Pair) : Type 0 where
+pub record Sought (v u : View) (z ea eb : List ℕ) (x y i j : ℕ) (r : Couple) : Type 0 where
   pub found : (r.kind ≡ 0 → ⊥) → Shown v u z ea eb x y i j r
   pub none : r.kind ≡ 0 → Clear v u z ea eb x y i j
 

@@ -2,11 +2,19 @@
 // Whether there are any is decided over classes of paths that no test of the search can tell apart; the first two are then found link by link.
 #![tactic(auto)]
 
-ghost use Rattle.std.specs.Prelude.{true, false, ◌≡◌, ◌+◌, ◌^◌, ◌≤◌, ◌<◌};
-ghost use Rattle.search_links.specs.Hops.{view_of};
+ghost use Rattle.std.specs.Prelude.{true, false, ◌≡◌, ◌+◌, ◌^◌, ◌≤◌, ◌<◌, IfSome};
 ghost use Rattle.search_links.specs.Sets.{Valued};
-ghost use Rattle.search_pairs.specs.Pairs.{wanted_of, missing, unmet, failing, fault, Asked, Sought};
+ghost use Rattle.search_links.specs.Sides.{view, half};
+ghost use Rattle.sheet.specs.Entry.{kind_number};
+ghost use Rattle.search_pairs.specs.Pairs.{wanted_of, missing, unmet, failing, fault, kind_in, couple, Asked, Sought};
 ghost use Rattle.search_pairs.specs.Tails.{no_links, Prepended, Met, Seeking, Searched, Ahead, Told, Next, Foremost, StandsFor};
+
+pub use pair::Pair;
+use search_links::{Half, Side};
+use search_tables::Table;
+use sheet::Kind;
+
+mod pair;
 
 // What a class of first paths asks of a class of second ones for one comparison: the ends that pass with one of its own, and the other book's
 // ends that pass with an end of a path alike to it.
@@ -16,10 +24,10 @@ pub struct Wanted {
     pub answers: u64,
 }
 
-// What the class with the ends l and the set r asks for comparison t (0 same, 1 differ).
-fn asks(ea: &[u64; 128], eb: &[u64; 128], t: u8, l: u64, r: u64) -> Wanted
-    requires { (t < 2) × Valued ea.now × Valued eb.now }
-    ensures { result ≡ wanted_of ea.now eb.now t l r }
+// What the class with the ends l and the set r asks for comparison t.
+fn asks(ea: &[u64; 128], eb: &[u64; 128], t: Half, l: u64, r: u64) -> Wanted
+    requires { Valued ea.now × Valued eb.now }
+    ensures { result ≡ wanted_of ea.now eb.now (half t) l r }
 {
     Wanted {
         ends: search_links::by_value(ea, t, l),
@@ -31,50 +39,38 @@ fn asks(ea: &[u64; 128], eb: &[u64; 128], t: u8, l: u64, r: u64) -> Wanted
 fn misses(n: Wanted, l: u64, r: u64) -> bool
     ensures { result ≡ missing n l r }
 {
-    if words::meet(n.ends, l) == 0 {
-        return false;
-    }
-    words::meet(r, n.answers) == 0
+    words::meet(n.ends, l) != 0 && words::meet(r, n.answers) == 0
 }
 
 // Whether some path of the class has no counterpart by same or by differ.
 fn unmatched(same: Wanted, differ: Wanted, l: u64, r: u64) -> bool
     ensures { result ≡ unmet same differ l r }
 {
-    if misses(same, l, r) {
-        return true;
-    }
-    misses(differ, l, r)
+    misses(same, l, r) || misses(differ, l, r)
 }
 
 // Whether two tips, one of each of two tables, have no counterpart.
 pub fn two_tips(
     ea: &[u64; 128],
     eb: &[u64; 128],
-    pl: &[u64; 64],
-    pr: &[u64; 64],
+    p: &Table,
     pn: usize,
-    ql: &[u64; 64],
-    qr: &[u64; 64],
+    q: &Table,
     qn: usize,
 ) -> bool
     requires { (pn ≤ 64) × (qn ≤ 64) × Valued ea.now × Valued eb.now }
-    ensures { Met ea.now eb.now pl.now pr.now pn ql.now qr.now qn result }
+    ensures { Met ea.now eb.now p.now.lefts p.now.rights pn q.now.lefts q.now.rights qn result }
 {
     let mut found = false;
-    let mut p = 0;
-    'search: while p < pn {
-        let same = asks(ea, eb, search_links::SAME, pl[p], pr[p]);
-        let differ = asks(ea, eb, search_links::DIFFER, pl[p], pr[p]);
-        let mut q = 0;
-        while q < qn {
-            found = unmatched(same, differ, ql[q], qr[q]);
+    'search: for i in 0..pn {
+        let same = asks(ea, eb, search_links::SAME, p.lefts[i], p.rights[i]);
+        let differ = asks(ea, eb, search_links::DIFFER, p.lefts[i], p.rights[i]);
+        for j in 0..qn {
+            found = unmatched(same, differ, q.lefts[j], q.rights[j]);
             if found {
                 break 'search;
             }
-            q += 1;
         }
-        p += 1;
     }
     found
 }
@@ -82,63 +78,34 @@ pub fn two_tips(
 // Whether there are two paths without counterpart: one with `more` links further than the classes of the table p, the other with `rest` links
 // further than those of the table q. The one is the first of the two, or the second where they are turned; then the other goes no further.
 fn seek(
-    sa: &[u16; 65],
-    la: &[u16; 512],
-    ta: &[u8; 512],
-    ea: &[u64; 128],
-    sb: &[u16; 65],
-    lb: &[u16; 512],
-    tb: &[u8; 512],
-    eb: &[u64; 128],
+    a: &Side,
+    b: &Side,
     z: &[u64; 64],
-    pl: &[u64; 64],
-    pr: &[u64; 64],
+    p: &Table,
     pn: usize,
     more: u8,
-    ql: &[u64; 64],
-    qr: &[u64; 64],
+    q: &Table,
     qn: usize,
     rest: u8,
     turned: bool,
 ) -> bool
-    requires { Seeking (view_of sa.now la.now ta.now) (view_of sb.now lb.now tb.now) ea.now eb.now pn qn × (more ≤ 4) × (rest ≤ 4) × (turned ≡ true → rest ≡ 0) }
-    ensures { Searched (view_of sa.now la.now ta.now) (view_of sb.now lb.now tb.now) z.now ea.now eb.now turned pl.now pr.now pn more ql.now qr.now qn rest result }
+    requires { Seeking (view a.now) (view b.now) a.now.ends b.now.ends pn qn × (more ≤ 4) × (rest ≤ 4) × (turned ≡ true → rest ≡ 0) }
+    ensures { Searched (view a.now) (view b.now) z.now a.now.ends b.now.ends turned p.now.lefts p.now.rights pn more q.now.lefts q.now.rights qn rest result }
 {
     if more == 0 {
         if turned {
-            return two_tips(ea, eb, ql, qr, qn, pl, pr, pn);
+            return two_tips(&a.ends, &b.ends, q, qn, p, pn);
         }
-        return seek(
-            sa, la, ta, ea, sb, lb, tb, eb, z, ql, qr, qn, rest, pl, pr, pn, 0, true,
-        );
+        return seek(a, b, z, q, qn, rest, p, pn, 0, true);
     }
-    let mut l = [0u64; 64];
-    let mut r = [0u64; 64];
+    let mut onward = Table {
+        lefts: [0; 64],
+        rights: [0; 64],
+    };
     let mut at = 0;
     while at < search_steps::LAST_PLACE {
-        let part = search_steps::fill(
-            sa, la, ta, ea, sb, lb, tb, eb, z, false, pl, pr, 0, pn, at, &mut l, &mut r, 0, 0,
-        );
-        if seek(
-            sa,
-            la,
-            ta,
-            ea,
-            sb,
-            lb,
-            tb,
-            eb,
-            z,
-            &l,
-            &r,
-            part.count,
-            more - 1,
-            ql,
-            qr,
-            qn,
-            rest,
-            turned,
-        ) {
+        let part = search_steps::fill(a, b, z, false, p, 0, pn, at, &mut onward, 0, 0);
+        if seek(a, b, z, &onward, part.count, more - 1, q, qn, rest, turned) {
             return true;
         }
         at = part.next;
@@ -148,78 +115,61 @@ fn seek(
 
 // Whether there are two such paths, the one with `more` links further than the tip (x, w).
 fn leads_on(
-    sa: &[u16; 65],
-    la: &[u16; 512],
-    ta: &[u8; 512],
-    ea: &[u64; 128],
-    sb: &[u16; 65],
-    lb: &[u16; 512],
-    tb: &[u8; 512],
-    eb: &[u64; 128],
+    a: &Side,
+    b: &Side,
     z: &[u64; 64],
     x: u8,
     w: u64,
     more: u8,
-    ql: &[u64; 64],
-    qr: &[u64; 64],
+    q: &Table,
     qn: usize,
     rest: u8,
     turned: bool,
 ) -> bool
-    requires { Seeking (view_of sa.now la.now ta.now) (view_of sb.now lb.now tb.now) ea.now eb.now 1 qn × (x < 64) × (more ≤ 4) × (rest ≤ 4) × (turned ≡ true → rest ≡ 0) }
-    ensures { Told (view_of sa.now la.now ta.now) (view_of sb.now lb.now tb.now) z.now ea.now eb.now turned x w more ql.now qr.now qn rest result }
+    requires { Seeking (view a.now) (view b.now) a.now.ends b.now.ends 1 qn × (x < 64) × (more ≤ 4) × (rest ≤ 4) × (turned ≡ true → rest ≡ 0) }
+    ensures { Told (view a.now) (view b.now) z.now a.now.ends b.now.ends turned x w more q.now.lefts q.now.rights qn rest result }
 {
-    let mut l = [0u64; 64];
-    let mut r = [0u64; 64];
-    l[0] = words::only(x);
-    r[0] = w;
-    seek(
-        sa, la, ta, ea, sb, lb, tb, eb, z, &l, &r, 1, more, ql, qr, qn, rest, turned,
-    )
+    let mut tip = Table {
+        lefts: [0; 64],
+        rights: [0; 64],
+    };
+    tip.lefts[0] = words::only(x);
+    tip.rights[0] = w;
+    seek(a, b, z, &tip, 1, more, q, qn, rest, turned)
 }
 
 // The first link out of x that leads to a tip from which there are two such paths, the one with `more` links further. There is one: the last is
 // not tried.
 fn next_link(
-    sa: &[u16; 65],
-    la: &[u16; 512],
-    ta: &[u8; 512],
-    ea: &[u64; 128],
-    sb: &[u16; 65],
-    lb: &[u16; 512],
-    tb: &[u8; 512],
-    eb: &[u64; 128],
+    a: &Side,
+    b: &Side,
     z: &[u64; 64],
     x: u8,
     w: u64,
     more: u8,
-    ql: &[u64; 64],
-    qr: &[u64; 64],
+    q: &Table,
     qn: usize,
     rest: u8,
     turned: bool,
 ) -> u16
-    requires { Seeking (view_of sa.now la.now ta.now) (view_of sb.now lb.now tb.now) ea.now eb.now 1 qn × (x < 64) × (more < 4) × (rest ≤ 4) × (turned ≡ true → rest ≡ 0) × Ahead (view_of sa.now la.now ta.now) (view_of sb.now lb.now tb.now) z.now ea.now eb.now turned x w (more + 1) ql.now qr.now qn rest }
-    ensures { Next (view_of sa.now la.now ta.now) (view_of sb.now lb.now tb.now) z.now ea.now eb.now turned x w more ql.now qr.now qn rest result }
+    requires { Seeking (view a.now) (view b.now) a.now.ends b.now.ends 1 qn × (x < 64) × (more < 4) × (rest ≤ 4) × (turned ≡ true → rest ≡ 0) × Ahead (view a.now) (view b.now) z.now a.now.ends b.now.ends turned x w (more + 1) q.now.lefts q.now.rights qn rest }
+    ensures { Next (view a.now) (view b.now) z.now a.now.ends b.now.ends turned x w more q.now.lefts q.now.rights qn rest result }
 {
-    let until = sa[x as usize + 1];
-    let mut k = sa[x as usize];
-    while k + 1 < until {
-        let y = search_links::target(ta, k);
-        let o = search_steps::step(sb, lb, tb, z, w, search_links::label(la, k), y);
-        if leads_on(
-            sa, la, ta, ea, sb, lb, tb, eb, z, y, o, more, ql, qr, qn, rest, turned,
-        ) {
+    let last = a.starts[x as usize + 1] - 1;
+    for k in a.starts[x as usize]..last {
+        let y = search_links::target(&a.to, k);
+        let o = search_steps::step(b, z, w, search_links::label(&a.labels, k), y);
+        if leads_on(a, b, z, y, o, more, q, qn, rest, turned) {
             return k;
         }
-        k += 1;
     }
-    k
+    last
 }
 
 // A path by the numbers of its first `len` links.
 #[derive(Clone, Copy)]
 pub struct Route {
+    // Stays: there is no heap, so the links of a path lie in memory of a fixed size, with their number beside.
     pub len: u8,
     pub links: [u16; 4],
 }
@@ -256,26 +206,19 @@ pub struct Tail {
 
 // The first path with `more` links from the tip (x, w), in the order of the links, that has no counterpart with one of the others; and its tip.
 fn first_path(
-    sa: &[u16; 65],
-    la: &[u16; 512],
-    ta: &[u8; 512],
-    ea: &[u64; 128],
-    sb: &[u16; 65],
-    lb: &[u16; 512],
-    tb: &[u8; 512],
-    eb: &[u64; 128],
+    a: &Side,
+    b: &Side,
     z: &[u64; 64],
     x: u8,
     w: u64,
     more: u8,
-    ql: &[u64; 64],
-    qr: &[u64; 64],
+    q: &Table,
     qn: usize,
     rest: u8,
     turned: bool,
 ) -> Tail
-    requires { Seeking (view_of sa.now la.now ta.now) (view_of sb.now lb.now tb.now) ea.now eb.now 1 qn × (x < 64) × (more ≤ 4) × (rest ≤ 4) × (turned ≡ true → rest ≡ 0) × Ahead (view_of sa.now la.now ta.now) (view_of sb.now lb.now tb.now) z.now ea.now eb.now turned x w more ql.now qr.now qn rest }
-    ensures { Foremost (view_of sa.now la.now ta.now) (view_of sb.now lb.now tb.now) z.now ea.now eb.now turned x w more ql.now qr.now qn rest result }
+    requires { Seeking (view a.now) (view b.now) a.now.ends b.now.ends 1 qn × (x < 64) × (more ≤ 4) × (rest ≤ 4) × (turned ≡ true → rest ≡ 0) × Ahead (view a.now) (view b.now) z.now a.now.ends b.now.ends turned x w more q.now.lefts q.now.rights qn rest }
+    ensures { Foremost (view a.now) (view b.now) z.now a.now.ends b.now.ends turned x w more q.now.lefts q.now.rights qn rest result }
 {
     if more == 0 {
         return Tail {
@@ -284,46 +227,10 @@ fn first_path(
             path: no_links(),
         };
     }
-    let k = next_link(
-        sa,
-        la,
-        ta,
-        ea,
-        sb,
-        lb,
-        tb,
-        eb,
-        z,
-        x,
-        w,
-        more - 1,
-        ql,
-        qr,
-        qn,
-        rest,
-        turned,
-    );
-    let y = search_links::target(ta, k);
-    let o = search_steps::step(sb, lb, tb, z, w, search_links::label(la, k), y);
-    let t = first_path(
-        sa,
-        la,
-        ta,
-        ea,
-        sb,
-        lb,
-        tb,
-        eb,
-        z,
-        y,
-        o,
-        more - 1,
-        ql,
-        qr,
-        qn,
-        rest,
-        turned,
-    );
+    let k = next_link(a, b, z, x, w, more - 1, q, qn, rest, turned);
+    let y = search_links::target(&a.to, k);
+    let o = search_steps::step(b, z, w, search_links::label(&a.labels, k), y);
+    let t = first_path(a, b, z, y, o, more - 1, q, qn, rest, turned);
     let s = t.path;
     Tail {
         cell: t.cell,
@@ -333,123 +240,85 @@ fn first_path(
 }
 
 // Whether two tips have no counterpart by comparison t.
-fn fails(ea: &[u64; 128], eb: &[u64; 128], t: u8, x: u8, w: u64, y: u8, o: u64) -> bool
-    requires { (t < 2) × (x < 64) × (y < 64) }
-    ensures { result ≡ failing ea.now eb.now t x w y o }
+fn fails(ea: &[u64; 128], eb: &[u64; 128], t: Half, x: u8, w: u64, y: u8, o: u64) -> bool
+    requires { (x < 64) × (y < 64) }
+    ensures { result ≡ failing ea.now eb.now (half t) x w y o }
 {
-    if words::has(search_links::row(ea, t, x), y) {
-        return words::meet(o, search_links::passing(eb, t, w)) == 0;
-    }
-    false
+    words::has(search_links::row(ea, t, x), y)
+        && words::meet(o, search_links::passing(eb, t, w)) == 0
 }
 
-// By which comparison two tips have no counterpart: 5 same, 6 differ, 0 neither.
-fn kind_of(ea: &[u64; 128], eb: &[u64; 128], x: u8, w: u64, y: u8, o: u64) -> u8
+// By which comparison two tips have no counterpart, same or differ, as the kind of the entry that compares them.
+fn kind_of(ea: &[u64; 128], eb: &[u64; 128], x: u8, w: u64, y: u8, o: u64) -> Option<Kind>
     requires { (x < 64) × (y < 64) }
-    ensures { result ≡ fault ea.now eb.now x w y o }
+    ensures fault { kind_in result ≡ fault ea.now eb.now x w y o }
+    ensures compares { IfSome result (λ k. 5 ≤ kind_number k) }
 {
     if fails(ea, eb, search_links::SAME, x, w, y, o) {
-        return sheet::KIND_SAME;
+        return Some(Kind::Same);
     }
     if fails(ea, eb, search_links::DIFFER, x, w, y, o) {
-        return sheet::KIND_DIFFER;
+        return Some(Kind::Differ);
     }
-    0
-}
-
-// Two paths by their links, with the kind of the entry that compares them: same or differ; 0 where there are none.
-#[derive(Clone, Copy)]
-pub struct Pair {
-    pub kind: u8,
-    pub first: Route,
-    pub second: Route,
-}
-
-// No two paths.
-pub fn no_pair() -> Pair
-    ensures { result.kind ≡ 0 }
-{
-    let w = no_links();
-    Pair {
-        kind: 0,
-        first: w,
-        second: w,
-    }
+    None
 }
 
 // The first two paths of i and j links from x, in the order of the links, first by the first path, whose ends pass a comparison, and that have no
 // counterpart from y. There are some. The second are told by the paths with `rest` links further than the classes of the table q.
 pub fn first_pair(
-    sa: &[u16; 65],
-    la: &[u16; 512],
-    ta: &[u8; 512],
-    ea: &[u64; 128],
-    sb: &[u16; 65],
-    lb: &[u16; 512],
-    tb: &[u8; 512],
-    eb: &[u64; 128],
+    a: &Side,
+    b: &Side,
     z: &[u64; 64],
     x: u8,
     y: u8,
     i: u8,
     j: u8,
-    ql: &[u64; 64],
-    qr: &[u64; 64],
+    q: &Table,
     qn: usize,
     rest: u8,
-) -> Pair
-    requires { Asked (view_of sa.now la.now ta.now) (view_of sb.now lb.now tb.now) ea.now eb.now x y i j × (qn ≤ 64) × (rest ≤ 4) × Ahead (view_of sa.now la.now ta.now) (view_of sb.now lb.now tb.now) z.now ea.now eb.now false x (2 ^ y) i ql.now qr.now qn rest × StandsFor (view_of sa.now la.now ta.now) (view_of sb.now lb.now tb.now) z.now ea.now eb.now x y i j ql.now qr.now qn rest }
-    ensures { Sought (view_of sa.now la.now ta.now) (view_of sb.now lb.now tb.now) z.now ea.now eb.now x y i j result }
+) -> Option<Pair>
+    requires { Asked (view a.now) (view b.now) a.now.ends b.now.ends x y i j × (qn ≤ 64) × (rest ≤ 4) × Ahead (view a.now) (view b.now) z.now a.now.ends b.now.ends false x (2 ^ y) i q.now.lefts q.now.rights qn rest × StandsFor (view a.now) (view b.now) z.now a.now.ends b.now.ends x y i j q.now.lefts q.now.rights qn rest }
+    ensures { Sought (view a.now) (view b.now) z.now a.now.ends b.now.ends x y i j (couple result) }
 {
     let partner = words::only(y);
-    let p = first_path(
-        sa, la, ta, ea, sb, lb, tb, eb, z, x, partner, i, ql, qr, qn, rest, false,
-    );
-    let mut l = [0u64; 64];
-    let mut r = [0u64; 64];
-    l[0] = words::only(p.cell);
-    r[0] = p.word;
-    let q = first_path(
-        sa, la, ta, ea, sb, lb, tb, eb, z, x, partner, j, &l, &r, 1, 0, true,
-    );
-    let first = p.path;
-    let second = q.path;
-    Pair {
-        kind: kind_of(ea, eb, p.cell, p.word, q.cell, q.word),
-        first,
-        second,
-    }
+    let first = first_path(a, b, z, x, partner, i, q, qn, rest, false);
+    let mut tip = Table {
+        lefts: [0; 64],
+        rights: [0; 64],
+    };
+    tip.lefts[0] = words::only(first.cell);
+    tip.rights[0] = first.word;
+    let second = first_path(a, b, z, x, partner, j, &tip, 1, 0, true);
+    let kind = kind_of(
+        &a.ends,
+        &b.ends,
+        first.cell,
+        first.word,
+        second.cell,
+        second.word,
+    )?;
+    Some(Pair {
+        kind,
+        first: first.path,
+        second: second.path,
+    })
 }
 
 // The first two paths of i and j links from x, in the order of the links, first by the first path, whose ends pass a comparison, and that have no
 // counterpart from y.
-pub fn two_paths(
-    sa: &[u16; 65],
-    la: &[u16; 512],
-    ta: &[u8; 512],
-    ea: &[u64; 128],
-    sb: &[u16; 65],
-    lb: &[u16; 512],
-    tb: &[u8; 512],
-    eb: &[u64; 128],
-    z: &[u64; 64],
-    x: u8,
-    y: u8,
-    i: u8,
-    j: u8,
-) -> Pair
-    requires { Asked (view_of sa.now la.now ta.now) (view_of sb.now lb.now tb.now) ea.now eb.now x y i j }
-    ensures { Sought (view_of sa.now la.now ta.now) (view_of sb.now lb.now tb.now) z.now ea.now eb.now x y i j result }
+pub fn two_paths(a: &Side, b: &Side, z: &[u64; 64], x: u8, y: u8, i: u8, j: u8) -> Option<Pair>
+    requires { Asked (view a.now) (view b.now) a.now.ends b.now.ends x y i j }
+    ensures { Sought (view a.now) (view b.now) z.now a.now.ends b.now.ends x y i j (couple result) }
 {
     let partner = words::only(y);
-    let mut l = [0u64; 64];
-    let mut r = [0u64; 64];
-    l[0] = words::only(x);
-    r[0] = partner;
-    if leads_on(
-        sa, la, ta, ea, sb, lb, tb, eb, z, x, partner, i, &l, &r, 1, j, false,
-    ) {
-        return first_pair(sa, la, ta, ea, sb, lb, tb, eb, z, x, y, i, j, &l, &r, 1, j);
+    let mut tip = Table {
+        lefts: [0; 64],
+        rights: [0; 64],
+    };
+    tip.lefts[0] = words::only(x);
+    tip.rights[0] = partner;
+    if leads_on(a, b, z, x, partner, i, &tip, 1, j, false) {
+        return first_pair(a, b, z, x, y, i, j, &tip, 1, j);
     }
-    no_pair()
+    None
 }

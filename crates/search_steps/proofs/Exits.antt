@@ -4,7 +4,7 @@ use mathlib.Core.Bool.{Bool, true, false, So, false≢true}
 use mathlib.Core.Path.{◌≡◌, refl, sym, ap, ◌∙◌}
 use mathlib.Core.Logic.{◌⊎◌, inl, inr, ⊎_elim}
 use mathlib.Core.List.{List}
-use Prim.Native.Nat.{ℕ, ◌+◌, ◌*◌, ◌/◌, ◌%◌, ◌^◌, ◌≤◌, ◌<◌}
+use Prim.Native.Nat.{ℕ, ◌+◌, ◌*◌, ◌/◌, ◌%◌, ◌^◌, ◌≤◌, ◌<◌, max}
 use native.Mathlib.Nat.{eq-or-lt_of_le}
 use native.Mathlib.Omega.{arith}
 use borrow.Author.Tests.{eqb-true}
@@ -19,10 +19,9 @@ use Rattle.search_links.specs.Sets.{reached, image_of, row_at, StandsIn, seen_as
 use Rattle.search_tables.specs.declared.Grown.{Grown}
 use Rattle.search_tables.specs.Tips.{Has, Covered, TableRoom, Untouched, cut_as, Grew}
 use Rattle.search_tables.specs.Laws.{equal_or, covered_by_has, covered_trans, untouched_refl, untouched_trans}
-use Rattle.search_steps.specs.declared.Stretch.{Stretch}
 use Rattle.search_steps.specs.declared.Part.{Part}
 use Rattle.search_steps.specs.Paths.{Leaves, step_word}
-use Rattle.search_steps.specs.Tables.{Beyond, NextLabel, Unites, Rowed, cells_by, set_by, Stretched, Moves, slot, last_place, Passed, Begins, Filled}
+use Rattle.search_steps.specs.Tables.{Beyond, NextLabel, Unites, Rowed, cells_by, set_by, Stretch, Stretched, Moves, slot, last_place, Passed, Begins, Filled}
 use Rattle.search_steps.specs.Laws.{spread_agrees, leaves_low, image_in, image-out}
 
 -- what is below the next number is at most this one
@@ -159,7 +158,7 @@ module _ (z own ends : List ℕ) (wide : Bool) (rows ls rs : List ℕ) (n from :
   }
 
   module _ (ls' rs' : List ℕ) (total e : ℕ) (f : Stretching z own ends wide rows ls rs n from ls₀ rs₀ base count ls' rs' total e) where
-    pub stretching_end : n ≤ e → (r : Stretch) → r.count ≡ total → r.upto ≡ e → r.full ≡ false
+    pub stretching_end : n ≤ e → (r : Stretch) → r.count ≡ total → r.upto ≡ max from n → r.full ≡ false
         → Stretched z own ends wide rows ls rs n from ls₀ rs₀ base count ls' rs' r
     stretching_end l r dc du df = record {
       room = rw dc f.room;
@@ -167,8 +166,8 @@ module _ (z own ends : List ℕ) (wide : Bool) (rows ls rs : List ℕ) (n from :
       least = omega (arith, f.least);
       sound = rw dc f.sound;
       kept = rw dc f.kept;
-      whole = λ j y a b. rw dc (f.whole j y a (rw du at b));
-      onward = rw du f.onward;
+      whole = λ j y a b. rw dc (f.whole j y a (omega (arith, f.onward)));
+      onward = omega arith;
       full = λ t. absurd (false≢true (sym df ∙ t));
       all = λ _. omega arith;
     }
@@ -238,11 +237,11 @@ or-not m n = ⊎_elim (λ l. inr l) (λ l. inl l) (le-or-lt n m)
 
 -- ---- where a label is begun
 module _ (first a at : ℕ) where
-  pub begins_there : a ≡ at / 64 → first < at % 64 → Begins first a at (at % 64)
-  begins_there d l = record { least = omega arith; few = λ _. omega arith; reaches = λ _. omega arith; most = λ e b m. omega arith }
+  pub begins_later : a ≡ at / 64 → (r : ℕ) → r ≡ max first (at % 64) → Begins first a at r
+  begins_later d r q = record { least = omega arith; few = λ l. omega arith; reaches = λ l. omega arith; most = λ e b m. omega arith }
 
-  pub begins_first : (a ≡ at / 64 → at % 64 ≤ first) → Begins first a at first
-  begins_first h = record { least = omega arith; few = λ b. b; reaches = λ l. ⊎_elim (λ q. omega (arith, h (sym q))) (λ s. omega arith) (eq-or-lt_of_le l); most = λ e b m. b }
+  pub begins_first : (a ≡ at / 64 → ⊥) → Begins first a at first
+  begins_first h = record { least = omega arith; few = λ b. b; reaches = λ l. ⊎_elim (λ q. absurd (h (sym q))) (λ s. omega arith) (eq-or-lt_of_le l); most = λ e b m. b }
 
 -- ---- a table is filled: it covers the tips by the classes and labels passed
 pub record Filling (v u : View) (z own ends : List ℕ) (wide : Bool) (ls rs : List ℕ) (first n at : ℕ) (ls₀ rs₀ : List ℕ) (base count : ℕ) (ls' rs' : List ℕ) (total a from : ℕ) : Type 0 where

@@ -1,11 +1,11 @@
 -- The tables of tips one link beyond the tips of a table.
-use Rattle.std.specs.Prelude.{Bool, true, false, ◌⊎◌, ◌≡◌, List, ℕ, ◌+◌, ◌*◌, ◌/◌, ◌≤◌, ◌<◌, length, get_or}
+use Rattle.std.specs.Prelude.{Bool, true, false, ◌⊎◌, ◌≡◌, List, ℕ, ◌+◌, ◌*◌, ◌/◌, ◌≤◌, ◌<◌, max, length, get_or, Result, Ok, Err}
 use Rattle.std.proofs.Math.Bool.{So}
 use Rattle.words.specs.Words.{bit}
 use Rattle.search_links.specs.Hops.{View, label_of, to_of, hops_of, every_label}
 use Rattle.search_links.specs.Sets.{reached, spread, row_at, StandsIn, seen_as}
 use Rattle.search_tables.specs.Tips.{Has, Covered, TableRoom, Untouched, cut_as}
-use Rattle.search_steps.specs.declared.Stretch.{Stretch}
+use Rattle.search_steps.specs.declared.Full.{Full}
 use Rattle.search_steps.specs.declared.Part.{Part}
 use Rattle.search_steps.specs.Paths.{Leaves, step_word}
 
@@ -47,6 +47,17 @@ cells_by rows ls e = spread (row_at rows 0) (get_or ls e 0)
 -- The set that the other book's rows lead to from it.
 abbrev pub set_by : List ℕ → List ℕ → ℕ → ℕ
 set_by rows rs e = spread (row_at rows 1) (get_or rs e 0)
+
+-- How many classes a table has after some classes of another were gone through for one label, up to which, and whether it was too full for the next.
+pub record Stretch : Type 0 where
+  pub count : ℕ
+  pub upto : ℕ
+  pub full : Bool
+
+-- The classes from `from` on up to the n-th were gone through, or those before the one for which the table was too full.
+abbrev pub stretch : ℕ → ℕ → Result ℕ Full → Stretch
+stretch n from (Ok count) = record { count = count; upto = max from n; full = false }
+stretch n from (Err f) = record { count = f.count; upto = f.class; full = true }
 
 -- The table has nothing but what it had and tips that the rows of a label lead to from a class from `from` on, or those of nodes that stand in for theirs,
 -- these from class `base` on. It covers what it had, and the tips from the classes from `from` up to r.upto.

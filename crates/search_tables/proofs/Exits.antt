@@ -4,7 +4,7 @@ use mathlib.Core.Bool.{Bool, true, false, So, not, ◌&&◌, ◌||◌, false≢t
 use mathlib.Core.Path.{◌≡◌, refl, sym, ap, ◌∙◌}
 use mathlib.Core.Logic.{◌↔◌, ◌⊎◌, inl, inr, ⊎_elim}
 use mathlib.Core.List.{List}
-use Prim.Native.Nat.{ℕ, ◌+◌, ◌-◌, ◌^◌, ◌≤◌, ◌<◌}
+use Prim.Native.Nat.{ℕ, ◌+◌, ◌^◌, ◌≤◌, ◌<◌}
 use native.Mathlib.Nat.{eq-or-lt_of_le}
 use native.Mathlib.Omega.{arith}
 use borrow.Author.Tests.{eqb-true, eq-eqb}
@@ -86,15 +86,15 @@ module _ (ls rs : List ℕ) (n cells w : ℕ) where
   pub rest_start : Rest ls rs n cells w cells
   rest_start = record { part = λ x i. i; others = λ x _ i. inl i }
 
-  pub rest-next : (left left' e : ℕ) (r : Bool) → Rest ls rs n cells w left → 0 < e → e ≤ n → (r ≡ true) ↔ Inside (get_or rs (e - 1) 0) w → r ≡ true
-      → IsMinus left (get_or ls (e - 1) 0) left' → Rest ls rs n cells w left'
-  rest-next left left' e r f p b d t m = record {
-    part = λ x i. f.part x (minus_in left (get_or ls (e - 1) 0) left' m x i).0;
+  pub rest-next : (left left' e : ℕ) (r : Bool) → Rest ls rs n cells w left → e < n → (r ≡ true) ↔ Inside (get_or rs e 0) w → r ≡ true
+      → IsMinus left (get_or ls e 0) left' → Rest ls rs n cells w left'
+  rest-next left left' e r f b d t m = record {
+    part = λ x i. f.part x (minus_in left (get_or ls e 0) left' m x i).0;
     others = λ x l i. ⊎_elim
         (λ j. ⊎_elim
         inl
-        (λ k. inr (record { word = get_or rs (e - 1) 0; has = record { class = e - 1; below = omega arith; cell = l; inside = k; word = refl }; inside = d.0 t }))
-        (minus_or left (get_or ls (e - 1) 0) left' m x j)) inr (f.others x l i);
+        (λ k. inr (record { word = get_or rs e 0; has = record { class = e; below = b; cell = l; inside = k; word = refl }; inside = d.0 t }))
+        (minus_or left (get_or ls e 0) left' m x j)) inr (f.others x l i);
   }
 
 -- ---- cells are put into class e, which then has the cells l

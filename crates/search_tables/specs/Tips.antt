@@ -1,6 +1,6 @@
 -- Tables of tips. Of a path only its tip counts further on: the node where it ends, and the set of the ends of the paths of the other graph that
 -- are alike to it. A class is a set of tips with one such set; a table is n classes in two lists of words: the nodes of class e, and its set.
-use Rattle.std.specs.Prelude.{Bool, true, false, ◌⊎◌, ◌≡◌, List, ℕ, ◌+◌, ◌≤◌, ◌<◌, length, get_or}
+use Rattle.std.specs.Prelude.{Bool, true, false, ◌⊎◌, ◌≡◌, List, Option, Some, None, ℕ, ◌+◌, ◌≤◌, ◌<◌, length, get_or}
 use Rattle.std.proofs.Math.Bool.{So}
 use Rattle.std.specs.Int.Bits.{bit_and}
 use Rattle.words.specs.Words.{bit, Inside}
@@ -64,6 +64,11 @@ pub record Narrowed (ls rs : List ℕ) (base n cells w : ℕ) (ls' : List ℕ) :
   pub low : Untouched base ls rs ls' rs
   pub sound : (y o : ℕ) → Has ls' rs n y o → Has ls rs n y o
   pub kept : (y o : ℕ) → Has ls rs n y o → Has ls' rs n y o ⊎ (So (bit cells y) × Inside w o × (o ≡ w → ⊥))
+
+-- How many classes a table of n classes has after a set was put in, and that it was not full; where it was, it has what it had.
+abbrev pub put_as : ℕ → Option ℕ → Grown
+put_as n (Some count) = record { count = count; full = false }
+put_as n None = record { count = n; full = true }
 
 -- The table has nothing but what it had and tips of the nodes, or of nodes that stand in for them, with the set w, these from class `base` on. It covers
 -- what it had, and unless it was full, the tips of all the nodes.

@@ -1,5 +1,5 @@
 -- What an accepted sheet is: its entries are well-formed, so each of its questions keeps to its bound; where its entries start.
-use Rattle.std.specs.Prelude.{Bool, true, false, cond, ◌||◌, List, [], ◌∷◌, ◌≡◌, eqb, ltb, length, get_or}
+use Rattle.std.specs.Prelude.{Bool, true, false, cond, ◌||◌, List, [], ◌∷◌, ◌≡◌, eqb, ltb, length, get_or, Ok, Err}
 use Rattle.std.proofs.lemmas.Bool.{false≢true, eqb-false}
 use Rattle.std.proofs.Math.Path.{refl}
 use Rattle.std.proofs.Common.{sym, ap, ◌∙◌, zero-add, not-suc-le-zero, le_of_suc-le-suc, ltb-true, ltb-false, eqb-true}
@@ -10,11 +10,14 @@ use native.Mathlib.Omega.{arith}
 use Rattle.theory.specs.Bound.{Within}
 use Rattle.sheet.specs.Entry.{truth, entry_with, kind_of, numbers, Short, Below, WellFormedEntry, WellFormedFrom, WellFormed, spell, expressions}
 use Rattle.sheet.specs.ExpressionLaws.{expression_within, expression_is}
-use Rattle.sheet.specs.Sheet.{version_of, bound_of, count_of, head_size, most_kind, step_width, steps_at, entry_of, entry_in, entry_at, next_at, entries_at, start_from, entries_of, entry_start, question_of, too_large, numbers_refusal, entry_refusal, entries_refusal, sheet_refusal, sheet_answer}
-use Rattle.outcome.specs.RefusalLaws.{first-zero}
+use Rattle.sheet.specs.Sheet.{version_of, bound_of, count_of, head_size, most_kind, step_width, steps_at, entry_of, entry_in, entry_at, next_at, entries_at, start_from, entries_of, entry_start, question_of, too_large, numbers_refusal, entry_refusal, entries_refusal, sheet_refusal, heading, sheet_answer}
+use Rattle.outcome.specs.RefusalLaws.{first-zero, number-some}
+use Rattle.outcome.specs.Refused.{number, named, judged}
+use Rattle.outcome.specs.declared.Refusal.{Refusal}
 use Rattle.sheet.specs.Passed.{EntryPassed}
 use Rattle.sheet.proofs.PassedLaws.{standing, accepted-entries}
-use Rattle.sheet.specs.declared.SheetAnswer.TheVariants.{Accepted, Refused}
+use Rattle.sheet.proofs.OutcomeLaws.{sheet_refusal-named}
+use Rattle.sheet.specs.declared.Heading.{Heading}
 
 -- ---- an entry that stands is well-formed
 
@@ -151,23 +154,25 @@ pub record Accepting (s : List ℕ) (q c : ℕ) : Type 0 where
   pub entries : q ≡ count_of s
   pub bound : c ≡ bound_of s
 
-pub answer_accepting : (s : List ℕ) (q c : ℕ) → Accepted q c ≡ sheet_answer s → Accepting s q c
-unfolding sheet_answer
-answer_accepting s q c h = go (eqb (sheet_refusal s) 0) refl h
+pub answer_accepting : (s : List ℕ) (h : Heading) → Ok h ≡ sheet_answer s → Accepting s h.entries h.bound
+unfolding sheet_answer judged
+answer_accepting s h e = go (eqb (sheet_refusal s) 0) refl e
   where
-    go : (b : Bool) → eqb (sheet_refusal s) 0 ≡ b → Accepted q c ≡ cond b (Accepted (count_of s) (bound_of s)) (Refused (sheet_refusal s)) → Accepting s q c
-    go true e h = record { good = eqb-true _ _ e; entries = cc; bound = cc }
-    go false e h = let z : ◌≡◌ {A = ℕ} 0 1 = cc in absurd (omega arith)
+    go : (b : Bool) → eqb (sheet_refusal s) 0 ≡ b → Ok h ≡ cond b (Ok (heading (count_of s) (bound_of s))) (Err (named (sheet_refusal s))) → Accepting s h.entries h.bound
+    go true d e = let p : h ≡ heading (count_of s) (bound_of s) = cc in record { good = eqb-true _ _ d; entries = ap (λ h. h.entries) p; bound = ap (λ h. h.bound) p }
+    go false d e = cc
 
--- A sheet that is refused, with its first refusal.
+-- A sheet that is refused, with the number of its first refusal.
 pub record Refusing (s : List ℕ) (r : ℕ) : Type 0 where
   pub some : r ≡ 0 → ⊥
   pub first : r ≡ sheet_refusal s
 
-pub answer_refusing : (s : List ℕ) (r : ℕ) → Refused r ≡ sheet_answer s → Refusing s r
-unfolding sheet_answer
-answer_refusing s r h = go (eqb (sheet_refusal s) 0) refl h
+pub answer_refusing : (s : List ℕ) (r : Refusal) → Err r ≡ sheet_answer s → Refusing s (number r)
+unfolding sheet_answer judged
+answer_refusing s r e = go (eqb (sheet_refusal s) 0) refl e
   where
-    go : (b : Bool) → eqb (sheet_refusal s) 0 ≡ b → Refused r ≡ cond b (Accepted (count_of s) (bound_of s)) (Refused (sheet_refusal s)) → Refusing s r
-    go true e h = let z : ◌≡◌ {A = ℕ} 0 1 = cc in absurd (omega arith)
-    go false e h = let d : r ≡ sheet_refusal s = cc in record { some = λ z. eqb-false _ _ e (sym d ∙ z); first = d }
+    go : (b : Bool) → eqb (sheet_refusal s) 0 ≡ b → Err r ≡ cond b (Ok (heading (count_of s) (bound_of s))) (Err (named (sheet_refusal s))) → Refusing s (number r)
+    go true d e = cc
+    go false d e =
+        let p : r ≡ named (sheet_refusal s) = cc in
+        record { some = number-some r; first = ap number p ∙ sheet_refusal-named s (eqb-false _ _ d) }

@@ -1,28 +1,45 @@
 -- What each way out of the check shows of the definitions of `specs/`. The numbers that the code computed are variables here, with what is
 -- known of them, so that `search` finds them in a need's record.
-use mathlib.Core.Bool.{cond}
+use mathlib.Core.Bool.{cond, true, false, not}
 use mathlib.Core.List.{List, [], ◌∷◌}
+use mathlib.Core.Logic.{◌⊎◌, ⊎_elim}
 use mathlib.Core.Path.{◌≡◌, refl, sym, ap, ap₂, ◌∙◌}
+use denote.Enum.Bare.{sameb}
 use Prim.Native.Nat.{ℕ, suc, ◌+◌, ◌-◌, ◌*◌, ◌≤◌, ◌<◌}
 use native.Mathlib.Nat.{pos_of_ne-zero, mul-add, mul-le-mul, mul-le-mul_left, mul-le-mul_right}
 use native.Mathlib.Omega.{arith}
 use borrow.Author.Tests.{lt-ltb, le-ltb, le-leb, lt-leb, eq-eqb, ne_eqb}
 use lib.Dec.{ltb}
 use lib.ListN.{length, get_or}
-use Rattle.sheet.specs.Entry.{kind_of, first_way_lem, second_way, step_in, tests, numbers, most_steps}
+use Rattle.sheet.specs.Entry.{kind_number, kind_of, first_way_lem, second_way, step_in, tests, numbers, most_steps}
 use Rattle.outcome.specs.Refusals.{first_of}
-use Rattle.sheet.specs.Sheet.{length_of, bound_of, count_of, number_at, step_at, steps_at, entry_at, next_at, entry_start, head_refusal, step_counts, numbers_refusal, body_refusal, kind_refusal, entry_refusal, entries_refusal, sheet_refusal, sheet_answer, sheet_outcome, step_width, version_of, head_size, most_version, most_bound, most_entries, most_kind}
+use Rattle.sheet.specs.Sheet.{length_of, bound_of, count_of, number_at, step_at, steps_at, entry_at, next_at, entry_start, head_refusal, step_counts, numbers_refusal, body_refusal, kind_refusal, entry_refusal, entries_refusal, sheet_refusal, heading, sheet_answer, step_width, version_of, head_size, most_version, most_bound, most_entries, most_kind}
 use Rattle.fields.specs.Fields.{field}
 use Rattle.fields.specs.Label.{label_width}
 use Rattle.sheet.proofs.AcceptedLaws.{entry_start-next}
 use Rattle.sheet.specs.Reading.{Readable, HasNumber, HasWay, HasStep, Reads, steps_of, first_place, second_place}
 use Rattle.sheet.proofs.ReadingLaws.{readable, kind_read, number_read, first_reads, second_two, second_reads, steps_in}
-use Rattle.sheet.proofs.PassedLaws.{kind_passed, standing, headed, accepted_head}
+use Rattle.sheet.proofs.PassedLaws.{standing, headed, accepted_head}
 use Rattle.sheet.proofs.Bodies.{numbers-append, tests-append, steps-add, body_true, body_not, body_two, body_way, body_comparison, body_plain}
-use Rattle.outcome.specs.Outcome.{outcome, code}
 use Rattle.sheet.specs.declared.Steps.{Steps}
-use Rattle.sheet.specs.declared.SheetAnswer.{SheetAnswer}
-use Rattle.sheet.specs.declared.SheetAnswer.TheVariants.{Accepted, Refused}
+use Rattle.std.specs.Prelude.{Result, Ok, Err, IsErrAnd}
+use Rattle.outcome.specs.Refused.{number, refusal_in, judged}
+use Rattle.outcome.specs.RefusalLaws.{judged-ok, judged-err}
+use Rattle.outcome.specs.declared.Refusal.{Refusal}
+use Rattle.sheet.specs.declared.Heading.{Heading}
+use Rattle.sheet.specs.declared.kinds.Kind.{Kind}
+use Rattle.sheet.specs.declared.kinds.Kind.TheVariants as says
+use Rattle.sheet.specs.contracts.kinds.Kind.{the_type}
+use Rattle.sheet.specs.Kind.{Decodes}
+use Rattle.sheet.proofs.KindLaws.{kind_number-most, kind_unlike, kind_other, kind_none}
+
+-- ---- a refusal that is passed on
+pub passed_err : {A : Type 0} (r : Result A Refusal) (e : Refusal) → IsErrAnd r (λ x. x ≡ e) → r ≡ Err e
+passed_err (Ok a) e h = absurd h
+passed_err (Err x) e h = ap Err h
+
+pub passed_on : {A : Type 0} (r : Result A Refusal) (e : Refusal) (n : ℕ) → IsErrAnd r (λ x. x ≡ e) → number e ≡ n → refusal_in r ≡ n
+passed_on r e n h d = ap refusal_in (passed_err r e h) ∙ d
 
 -- ---- the header
 pub head_1 : (s : List ℕ) → length s < head_size → 1 ≡ head_refusal s
@@ -81,23 +98,26 @@ module _ (v count label : ℕ) (d : label ≡ label_width v) where
   product_most m = let f : label + 2 ≤ 4 = omega arith in mul-le-mul_right count f
 
 -- ---- the kind
-module _ (n kind : ℕ) where
-  pub kind_above : most_kind < kind → 10 ≡ kind_refusal n kind
+module _ (n byte : ℕ) where
+  pub kind_above : most_kind < byte → 10 ≡ kind_refusal n byte
   unfolding kind_refusal
-  kind_above h = simp (lt-ltb (most_kind) kind h)
+  kind_above h = simp (lt-ltb (most_kind) byte h)
 
-  module _ (h : kind ≤ most_kind) where
-    pub kind_later : (n ≡ 0 → ⊥) → 0 ≡ kind_refusal n kind
-    unfolding kind_refusal
-    kind_later f = simp (le-ltb (most_kind) kind h, ne_eqb n 0 f)
+  module _ (kind : Kind) (d : kind_number kind ≡ byte) where
+    known : byte ≤ most_kind
+    known = rw (← d) (kind_number-most kind)
 
-    pub kind_first : n ≡ 0 → (kind ≡ 0 → ⊥) → 13 ≡ kind_refusal n kind
+    pub kind_later : (n ≡ 0 → ⊥) → 0 ≡ kind_refusal n byte
     unfolding kind_refusal
-    kind_first z f = simp (le-ltb (most_kind) kind h, eq-eqb n 0 z, ne_eqb kind 0 f)
+    kind_later f = simp (le-ltb (most_kind) byte known, ne_eqb n 0 f)
 
-    pub kind_true : n ≡ 0 → kind ≡ 0 → 0 ≡ kind_refusal n kind
+    pub kind_first : n ≡ 0 → true ≡ not (sameb the_type kind says.True) → 13 ≡ kind_refusal n byte
     unfolding kind_refusal
-    kind_true z f = simp (le-ltb (most_kind) kind h, eq-eqb n 0 z, eq-eqb kind 0 f)
+    kind_first z f = simp (le-ltb (most_kind) byte known, eq-eqb n 0 z, ne_eqb byte 0 (λ e. kind_other kind f (d ∙ e)))
+
+    pub kind_true : n ≡ 0 → false ≡ not (sameb the_type kind says.True) → 0 ≡ kind_refusal n byte
+    unfolding kind_refusal
+    kind_true z f = simp (le-ltb (most_kind) byte known, eq-eqb n 0 z, eq-eqb byte 0 (sym d ∙ kind_none kind f))
 
 -- ---- numbers
 module _ (s : List ℕ) (n at i : ℕ) (d : i ≡ number_at s at) where
@@ -157,34 +177,31 @@ module _ (v : ℕ) (s : List ℕ) (n at left whole : ℕ) (i : whole ≡ numbers
   tests_last h f r d = d ∙ sym (i ∙ ap (λ m. numbers_refusal n (tests (steps_at v s at m))) (let e : left ≡ 1 = omega (arith, pos_of_ne-zero f) in e))
 
 -- ---- the body of a true, not, and or or
-module _ (s : List ℕ) (n kind at size : ℕ) where
-  module _ (k : kind ≡ 0) where
-    pub true_size : (size ≡ 0 → ⊥) → 14 ≡ body_refusal 0 s 0 n kind at size
-    true_size f = simp (body_true 0 s 0 n kind at size k, ne_eqb size 0 f)
+module _ (s : List ℕ) (n at size : ℕ) where
+  pub true_size : (size ≡ 0 → ⊥) → 14 ≡ body_refusal 0 s 0 n 0 at size
+  true_size f = simp (body_true 0 s 0 n 0 at size refl, ne_eqb size 0 f)
 
-    pub true_good : size ≡ 0 → 0 ≡ body_refusal 0 s 0 n kind at size
-    true_good e = simp (body_true 0 s 0 n kind at size k, eq-eqb size 0 e)
+  pub true_good : size ≡ 0 → 0 ≡ body_refusal 0 s 0 n 0 at size
+  true_good e = simp (body_true 0 s 0 n 0 at size refl, eq-eqb size 0 e)
 
-  module _ (k : kind ≡ 1) where
-    pub not_size : (size ≡ 2 → ⊥) → 14 ≡ body_refusal 0 s 0 n kind at size
-    not_size f = simp (body_not 0 s 0 n kind at size k, ne_eqb size 2 f)
+  pub not_size : (size ≡ 2 → ⊥) → 14 ≡ body_refusal 0 s 0 n 1 at size
+  not_size f = simp (body_not 0 s 0 n 1 at size refl, ne_eqb size 2 f)
 
-    pub not_number : size ≡ 2 → (r : ℕ) → r ≡ numbers_refusal n (number_at s at ∷ []) → r ≡ body_refusal 0 s 0 n kind at size
-    not_number e r d = simp (body_not 0 s 0 n kind at size k, eq-eqb size 2 e) d
+  pub not_number : size ≡ 2 → (r : ℕ) → r ≡ numbers_refusal n (number_at s at ∷ []) → r ≡ body_refusal 0 s 0 n 1 at size
+  not_number e r d = simp (body_not 0 s 0 n 1 at size refl, eq-eqb size 2 e) d
 
-  module _ (k : kind < 4) (z : kind ≡ 0 → ⊥) (o : kind ≡ 1 → ⊥) where
-    pub two_size : (size ≡ 4 → ⊥) → 14 ≡ body_refusal 0 s 0 n kind at size
-    two_size f = simp (body_two 0 s 0 n kind at size (omega arith) k, ne_eqb size 4 f)
+  pub both_size : (size ≡ 4 → ⊥) → 14 ≡ body_refusal 0 s 0 n 2 at size
+  both_size f = simp (body_two 0 s 0 n 2 at size (omega arith) (omega arith), ne_eqb size 4 f)
 
-    module _ (e : size ≡ 4) (r : ℕ) (d : r ≡ numbers_refusal n (number_at s at ∷ [])) where
-      two : first_of r (numbers_refusal n (number_at s (at + 2) ∷ [])) ≡ body_refusal 0 s 0 n kind at size
-      two = rw d (simp (body_two 0 s 0 n kind at size (omega arith) k, eq-eqb size 4 e) (sym (numbers-append n (number_at s at ∷ []) (number_at s (at + 2) ∷ []))))
+  module _ (e : size ≡ 4) (r : ℕ) (d : r ≡ numbers_refusal n (number_at s at ∷ [])) where
+    two : first_of r (numbers_refusal n (number_at s (at + 2) ∷ [])) ≡ body_refusal 0 s 0 n 2 at size
+    two = rw d (simp (body_two 0 s 0 n 2 at size (omega arith) (omega arith), eq-eqb size 4 e) (sym (numbers-append n (number_at s at ∷ []) (number_at s (at + 2) ∷ []))))
 
-      pub two-first : (r ≡ 0 → ⊥) → r ≡ body_refusal 0 s 0 n kind at size
-      two-first f = simp (ne_eqb r 0 f) at two
+    pub both-first : (r ≡ 0 → ⊥) → r ≡ body_refusal 0 s 0 n 2 at size
+    both-first f = simp (ne_eqb r 0 f) at two
 
-      pub two_second : r ≡ 0 → (t : ℕ) → t ≡ numbers_refusal n (number_at s (at + 2) ∷ []) → t ≡ body_refusal 0 s 0 n kind at size
-      two_second f t dt = dt ∙ (simp (eq-eqb r 0 f) at two)
+    pub both_second : r ≡ 0 → (t : ℕ) → t ≡ numbers_refusal n (number_at s (at + 2) ∷ []) → t ≡ body_refusal 0 s 0 n 2 at size
+    both_second f t dt = dt ∙ (simp (eq-eqb r 0 f) at two)
 
 -- ---- the body of a way
 module _ (v : ℕ) (s : List ℕ) (n at size : ℕ) where
@@ -226,16 +243,25 @@ module _ (v : ℕ) (s : List ℕ) (c n at size : ℕ) where
             simp (body_comparison v s c n 5 at size (omega arith) (omega arith), le-ltb size 2 h, ← dk, ← dj, le-ltb c k (omega arith), le-ltb c j (omega arith), ← dt, eq-eqb size (2 + t) e) dr
 
 -- ---- the body, by its kind
-module _ (v : ℕ) (s : List ℕ) (c n kind at size r : ℕ) where
-  pub body_by_plain : kind < 4 → r ≡ body_refusal 0 s 0 n kind at size → r ≡ body_refusal v s c n kind at size
-  body_by_plain h d = d ∙ body_plain 0 v s 0 c n kind at size h
+module _ (v : ℕ) (s : List ℕ) (c n : ℕ) (kind : Kind) (at size r : ℕ) where
+  pub body_by_true : kind ≡ says.True → r ≡ body_refusal 0 s 0 n 0 at size → r ≡ body_refusal v s c n (kind_number kind) at size
+  body_by_true k d = rw k (d ∙ body_plain 0 v s 0 c n 0 at size (omega arith))
 
-  pub body_by_way : kind ≡ 4 → r ≡ body_refusal v s 0 n 4 at size → r ≡ body_refusal v s c n kind at size
-  body_by_way h d = d ∙ (rw h (body_way v s 0 n 4 at size refl ∙ sym (body_way v s c n 4 at size refl)))
+  pub body_by_not : kind ≡ says.Not → r ≡ body_refusal 0 s 0 n 1 at size → r ≡ body_refusal v s c n (kind_number kind) at size
+  body_by_not k d = rw k (d ∙ body_plain 0 v s 0 c n 1 at size (omega arith))
 
-  pub body_by_comparison : 4 ≤ kind → (kind ≡ 4 → ⊥) → kind ≤ most_kind → r ≡ body_refusal v s c n 5 at size → r ≡ body_refusal v s c n kind at size
-  body_by_comparison h f l d =
-      d ∙ body_comparison v s c n 5 at size (omega arith) (omega arith) ∙ sym (body_comparison v s c n kind at size (omega arith) l)
+  pub body_by_both : (kind ≡ says.And) ⊎ (kind ≡ says.Or) → r ≡ body_refusal 0 s 0 n 2 at size → r ≡ body_refusal v s c n (kind_number kind) at size
+  body_by_both k d =
+      d ∙ body_two 0 s 0 n 2 at size (omega arith) (omega arith)
+      ∙ ⊎_elim (λ k. rw k (sym (body_two v s c n 2 at size (omega arith) (omega arith)))) (λ k. rw k (sym (body_two v s c n 3 at size (omega arith) (omega arith)))) k
+
+  pub body_by_way : kind ≡ says.Way → r ≡ body_refusal v s 0 n 4 at size → r ≡ body_refusal v s c n (kind_number kind) at size
+  body_by_way k d = rw k (d ∙ body_way v s 0 n 4 at size refl ∙ sym (body_way v s c n 4 at size refl))
+
+  pub body_by_comparison : (kind ≡ says.Same) ⊎ (kind ≡ says.Differ) → r ≡ body_refusal v s c n 5 at size → r ≡ body_refusal v s c n (kind_number kind) at size
+  body_by_comparison k d =
+      d ∙ body_comparison v s c n 5 at size (omega arith) (omega arith)
+      ∙ ⊎_elim (λ k. rw k (sym (body_comparison v s c n 5 at size (omega arith) (omega arith)))) (λ k. rw k (sym (body_comparison v s c n 6 at size (omega arith) (omega arith)))) k
 
 -- ---- an entry
 pub entry_absent : (v : ℕ) (s : List ℕ) (c n at : ℕ) → length s ≤ at → 9 ≡ entry_refusal v s c n at
@@ -257,9 +283,10 @@ module _ (v : ℕ) (s : List ℕ) (c n at : ℕ) (h : at < length s) (count : �
       unfolding entry_refusal
       entry_kind f = simp (lt-leb (length s) at h, ← d, ne_eqb count 0 z, lt-leb (length s) (at + count) (omega arith), ← dr, ne_eqb r 0 f)
 
-      pub entry_body : r ≡ 0 → (t : ℕ) → t ≡ body_refusal v s c n (get_or s (at + 1) 0) (at + 2) (count - 1) → t ≡ entry_refusal v s c n at
+      pub entry_body : r ≡ 0 → (kind : ℕ) → kind ≡ get_or s (at + 1) 0 → (t : ℕ) → t ≡ body_refusal v s c n kind (at + 2) (count - 1) → t ≡ entry_refusal v s c n at
       unfolding entry_refusal
-      entry_body f t dt = simp (lt-leb (length s) at h, ← d, ne_eqb count 0 z, lt-leb (length s) (at + count) (omega arith), ← dr, eq-eqb r 0 f) dt
+      entry_body f kind k t dt =
+          simp (lt-leb (length s) at h, ← d, ne_eqb count 0 z, lt-leb (length s) (at + count) (omega arith), ← dr, eq-eqb r 0 f) (dt ∙ ap (λ kind. body_refusal v s c n kind (at + 2) (count - 1)) k)
 
 -- ---- the entries, one turn at a time
 pub entries_start : (v : ℕ) (s : List ℕ) (c q : ℕ) → entries_refusal v s c 0 head_size q ≡ entries_refusal v s c 0 8 (q - 0)
@@ -300,14 +327,11 @@ module _ (v : ℕ) (s : List ℕ) (c q at n : ℕ) (i : entries_refusal v s c 0 
       entries_inside = let h = (standing v s c n at (sym dr ∙ z)).inside in omega arith
 
 -- ---- what the callers ask of a stage that is passed, in the form in which they ask it
-pub kind_most : (n kind r : ℕ) → r ≡ kind_refusal n kind → r ≡ 0 → kind ≤ most_kind
-kind_most n kind r d z = (kind_passed n kind (sym d ∙ z)).0
-
 pub head_long : (s : List ℕ) (h k : ℕ) → h ≡ head_refusal s → h ≡ 0 → k ≤ head_size → k ≤ length s
 head_long s h k d z l = let w = (headed s (sym d ∙ z)).eight in omega arith
 
-pub sheet_long : (s : List ℕ) (r k : ℕ) → r ≡ sheet_refusal s → r ≡ 0 → k ≤ head_size → k ≤ length s
-sheet_long s r k d z l = let w = (accepted_head s (sym d ∙ z)).eight in omega arith
+pub sheet_long : (s : List ℕ) (k : ℕ) → sheet_refusal s ≡ 0 → k ≤ head_size → k ≤ length s
+sheet_long s k z l = let w = (accepted_head s z).eight in omega arith
 
 -- ---- the sheet
 pub refusal_head : (s : List ℕ) (h : ℕ) → h ≡ head_refusal s → (h ≡ 0 → ⊥) → h ≡ sheet_refusal s
@@ -318,39 +342,33 @@ pub refusal_entries : (s : List ℕ) (h q r : ℕ) → h ≡ head_refusal s → 
 unfolding sheet_refusal
 refusal_entries s h q r d z dq dr = simp (← d, eq-eqb h 0 z, ← dq) dr
 
-pub answer_refused : (s : List ℕ) (r : ℕ) → r ≡ sheet_refusal s → (r ≡ 0 → ⊥) → Refused r ≡ sheet_answer s
+-- the answer, by its refusal
+pub answer_refused : (s : List ℕ) (r : Refusal) → number r ≡ sheet_refusal s → Err r ≡ sheet_answer s
 unfolding sheet_answer
-answer_refused s r d f = simp (← d, ne_eqb r 0 f)
+answer_refused s r d = sym (judged-err (sheet_refusal s) (heading (count_of s) (bound_of s)) r d)
 
-pub answer_accepted : (s : List ℕ) (r q : ℕ) → r ≡ sheet_refusal s → r ≡ 0 → q ≡ count_of s → Accepted q (bound_of s) ≡ sheet_answer s
+pub answer_accepted : (s : List ℕ) (q : ℕ) → 0 ≡ sheet_refusal s → q ≡ count_of s → Ok (heading q (bound_of s)) ≡ sheet_answer s
 unfolding sheet_answer
-answer_accepted s r q d z dq = simp (← d, eq-eqb r 0 z, dq)
-
--- ---- the answer as a number
-module _ (s : List ℕ) (a : SheetAnswer) (d : a ≡ sheet_answer s) (r : ℕ) where
-  pub code-accepted : (q b : ℕ) → a ≡ Accepted q b → r ≡ code (outcome 0 0 q b) → r ≡ code (sheet_outcome (sheet_answer s))
-  code-accepted q b e dr = dr ∙ ap (λ a. code (sheet_outcome a)) (sym e ∙ d)
-
-  pub code-refused : (b : ℕ) → a ≡ Refused b → r ≡ code (outcome b 3 0 0) → r ≡ code (sheet_outcome (sheet_answer s))
-  code-refused b e dr = dr ∙ ap (λ a. code (sheet_outcome a)) (sym e ∙ d)
+answer_accepted s q d dq = rw dq (sym (judged-ok (sheet_refusal s) (heading (count_of s) (bound_of s)) (sym d)))
 
 -- ---- the readers
-pub kind_returned : (s : List ℕ) (at : ℕ) → Readable s at → get_or s (at + 1) 0 ≡ kind_of (entry_at s at)
-kind_returned s at r = kind_read r
+pub kind_returned : (s : List ℕ) (at : ℕ) → Readable s at → (r : Result Kind Refusal) (kind : Kind) → r ≡ Ok kind → Decodes (get_or s (at + 1) 0) r → kind_number kind ≡ kind_of (entry_at s at)
+kind_returned s at h r kind e d = (rw e at d) ∙ kind_read h
 
 pub number_returned : (s : List ℕ) (at i r : ℕ) → HasNumber s at i → r ≡ number_at s (at + 2 + 2 * i) → r ≡ get_or (numbers (entry_at s at)) i 0
 number_returned s at i r h d = d ∙ number_read h
 
 module _ (s : List ℕ) (at : ℕ) (h : HasWay s at 4) (count : ℕ) (d : count ≡ get_or s (at + 2) 0) (f : count < 256) where
-  pub first_of_way : get_or s (at + 1) 0 ≡ 4 → Reads s (first_place s at) (first_way_lem (entry_at s at)) (record { start = at + 3; count = count; version = version_of s })
+  pub first_of_way : 4 ≡ kind_of (entry_at s at) → Reads s (first_place s at) (first_way_lem (entry_at s at)) (record { start = at + 3; count = count; version = version_of s })
   unfolding step_counts
   first_of_way k =
       first_reads h (record { start = at + 3; count = count; version = version_of s }) f
-      (rw (k, d) (ap (λ a. record { start = a; count = get_or s (at + 2) 0; version = version_of s }) (let e : at + 3 ≡ at + 2 + 1 = omega arith in e)))
+      (rw (kind_read h.entry ∙ sym k, d) (ap (λ a. record { start = a; count = get_or s (at + 2) 0; version = version_of s }) (let e : at + 3 ≡ at + 2 + 1 = omega arith in e)))
 
-  pub first_of_comparison : (get_or s (at + 1) 0 ≡ 4 → ⊥) → Reads s (first_place s at) (first_way_lem (entry_at s at)) (record { start = at + 4; count = count; version = version_of s })
-  first_of_comparison g =
-      let t = second_two (record { entry = h.entry; kind = let k = h.kind in omega (arith, kind_read h.entry) }) in
+  pub first_of_comparison : (kind : Kind) → kind_number kind ≡ kind_of (entry_at s at) → (kind ≡ says.Way → ⊥) → Reads s (first_place s at) (first_way_lem (entry_at s at)) (record { start = at + 4; count = count; version = version_of s })
+  first_of_comparison kind k f' =
+      let g : kind_of (entry_at s at) ≡ 4 → ⊥ = λ e. kind_unlike kind says.Way f' (k ∙ e) in
+      let t = second_two (record { entry = h.entry; kind = let l = h.kind in omega (arith, g) }) in
       first_reads h (record { start = at + 4; count = count; version = version_of s }) f
       (rw (d, t) (ap (λ a. record { start = a; count = get_or s (at + 2) 0; version = version_of s }) (let e : at + 4 ≡ at + 2 + 2 = omega arith in e)))
 

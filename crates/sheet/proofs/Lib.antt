@@ -1,4 +1,5 @@
 mod Bodies
+pub mod KindLaws
 pub mod Laws
 mod Vectors
 pub mod PassedLaws

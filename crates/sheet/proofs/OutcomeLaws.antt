@@ -1,9 +1,11 @@
 -- What the check of a sheet answers has room in an outcome's bits.
-use Rattle.std.specs.Prelude.{not, ◌&&◌, List, [], ◌∷◌, ℕ, zero, suc, ◌+◌, ◌-◌, ◌≤◌, eqb, ltb, leb, length, get_or}
+use Rattle.std.specs.Prelude.{not, ◌&&◌, List, [], ◌∷◌, ◌≡◌, refl, ℕ, zero, suc, ◌+◌, ◌-◌, ◌≤◌, eqb, ltb, leb, length, get_or}
 use Rattle.std.proofs.Common.{arith, eqb-true}
+use Rattle.std.proofs.lemmas.Bool.{eqb-false}
 use Rattle.outcome.specs.Outcome.{Fits, of_sheet}
 use Rattle.outcome.specs.OutcomeLaws.{accepted_fits, refused_fits}
-use Rattle.outcome.specs.RefusalLaws.{either, first_most}
+use Rattle.outcome.specs.Refused.{number, named, judged}
+use Rattle.outcome.specs.RefusalLaws.{either, first_most, number-named}
 use Rattle.sheet.specs.Entry.{numbers}
 use Rattle.sheet.specs.Sheet.{length_of, version_of, bound_of, count_of, head_size, most_version, most_bound, most_entries, most_kind, step_counts, entry_of, next_at, head_refusal, too_large, required, numbers_refusal, body_refusal, kind_refusal, entry_refusal, entries_refusal, sheet_refusal, sheet_answer, sheet_outcome}
 use Rattle.sheet.proofs.PassedLaws.{accepted_head}
@@ -57,10 +59,18 @@ pub sheet_refusal_most : (s : List ℕ) → sheet_refusal s ≤ 14
 unfolding sheet_refusal
 sheet_refusal_most s = first_most 14 (head-most s) (entries-most (version_of s) s (bound_of s) 0 head_size (count_of s))
 
+-- so its name has the number
+pub sheet_refusal-named : (s : List ℕ) → (sheet_refusal s ≡ 0 → ⊥) → number (named (sheet_refusal s)) ≡ sheet_refusal s
+sheet_refusal-named s f = go (sheet_refusal s) f (sheet_refusal_most s)
+  where
+    go : (n : ℕ) → (n ≡ 0 → ⊥) → n ≤ 14 → number (named n) ≡ n
+    go zero f h = absurd (f refl)
+    go (suc k) f h = number-named k h
+
 -- Check a sheet: q and c, or the refusal.
 pub sheet_fits : (s : List ℕ) → Fits (sheet_outcome (sheet_answer s))
-unfolding sheet_answer
+unfolding sheet_answer judged
 sheet_fits s =
     either (λ a. Fits (sheet_outcome a)) (eqb (sheet_refusal s) 0)
     (λ e. let d = accepted_head s (eqb-true _ _ e) in accepted_fits (count_of s) (bound_of s) (omega (arith, d.most)) (omega (arith, d.bounded)))
-    (λ _. refused_fits of_sheet (sheet_refusal s) (omega arith) (omega (arith, sheet_refusal_most s)))
+    (λ e. refused_fits of_sheet (number (named (sheet_refusal s))) (omega arith) (rw (sheet_refusal-named s (eqb-false _ _ e)) (omega (arith, sheet_refusal_most s))))

@@ -2,6 +2,8 @@
 use Rattle.std.specs.Prelude.{cond, List, [], ◌∷◌, ◌++◌, ◌≡◌, ℕ, suc, ◌<◌, ◌≤◌, eqb, length, get_or}
 use Rattle.theory.specs.Graph.{Comparison, same, differ}
 use Rattle.theory.specs.Expression.{PathExpr, NodeExpr, stay, step, test, seq, neg, conj, disj, exists, compare, always}
+use Rattle.sheet.specs.declared.kinds.Kind.{Kind}
+use Rattle.sheet.specs.declared.kinds.Kind.TheVariants as says
 
 -- "A step is a label" ("byte" in version 1) "and the number of a test at the cell reached."
 pub record Step : Type 0 where
@@ -27,6 +29,16 @@ entry_with kind i j s s' =
     (cond (eqb kind 5) (comparison same s s')
     (cond (eqb kind 6) (comparison differ s s')
     truth)))))
+
+-- The number of a kind.
+abbrev pub kind_number : Kind → ℕ
+kind_number says.True = 0
+kind_number says.Not = 1
+kind_number says.And = 2
+kind_number says.Or = 3
+kind_number says.Way = 4
+kind_number says.Same = 5
+kind_number says.Differ = 6
 
 -- The kind of a comparison.
 abbrev pub comparison_kind : Comparison → ℕ

@@ -1,13 +1,15 @@
 -- The sheet's format (01, "Sheet bytes" and "Check a sheet"), as executable definitions over the list of its bytes.
-use Rattle.std.specs.Prelude.{Bool, false, cond, not, ◌&&◌, ◌||◌, List, [], ◌∷◌, ℕ, zero, suc, ◌+◌, ◌-◌, ◌*◌, eqb, ltb, leb, length, get_or}
+use Rattle.std.specs.Prelude.{Bool, false, cond, not, ◌&&◌, ◌||◌, List, [], ◌∷◌, ℕ, zero, suc, ◌+◌, ◌-◌, ◌*◌, eqb, ltb, leb, length, get_or, Result, Ok, Err}
 use Rattle.fields.specs.Fields.{field}
 use Rattle.fields.specs.Label.{label_width}
-use Rattle.outcome.specs.Outcome.{Outcome, accepted, refused, of_sheet}
+use Rattle.outcome.specs.Outcome.{Outcome, accepted}
 use Rattle.outcome.specs.Refusals.{first_of}
+use Rattle.outcome.specs.Refused.{of_part, declined, judged}
+use Rattle.outcome.specs.declared.Refusal.{Refusal}
+use Rattle.outcome.specs.declared.Part.TheVariants as part
 use Rattle.theory.specs.Expression.{NodeExpr}
 use Rattle.sheet.specs.Entry.{Step, Entry, entry_with, expression, numbers, most_steps}
-use Rattle.sheet.specs.declared.SheetAnswer.{SheetAnswer}
-use Rattle.sheet.specs.declared.SheetAnswer.TheVariants.{Accepted, Refused}
+use Rattle.sheet.specs.declared.Heading.{Heading}
 
 -- ---- the header
 
@@ -201,11 +203,15 @@ entries_refusal v s c n at (suc left) = first_of (entry_refusal v s c n at) (ent
 unfoldable pub sheet_refusal : List ℕ → ℕ
 sheet_refusal s = first_of (head_refusal s) (entries_refusal (version_of s) s (bound_of s) 0 head_size (count_of s))
 
+-- A heading of q entries and the bound c.
+abbrev pub heading : ℕ → ℕ → Heading
+heading q c = record { entries = q; bound = c }
+
 -- "Check a sheet gives q and c", or its refusal.
-unfoldable pub sheet_answer : List ℕ → SheetAnswer
-sheet_answer s = cond (eqb (sheet_refusal s) 0) (Accepted (count_of s) (bound_of s)) (Refused (sheet_refusal s))
+unfoldable pub sheet_answer : List ℕ → Result Heading Refusal
+sheet_answer s = judged (sheet_refusal s) (heading (count_of s) (bound_of s))
 
 -- 01's numbers and values for each answer; a refusal speaks of the sheet.
-abbrev pub sheet_outcome : SheetAnswer → Outcome
-sheet_outcome (Accepted q c) = accepted q c
-sheet_outcome (Refused r) = refused of_sheet r
+abbrev pub sheet_outcome : Result Heading Refusal → Outcome
+sheet_outcome (Ok h) = accepted h.entries h.bound
+sheet_outcome (Err r) = declined (of_part part.Sheet r)

@@ -1,5 +1,5 @@
 -- What is written is what is read: the sheet of well-formed entries is accepted, with its bound and as many entries, and its entries are those.
-use Rattle.std.specs.Prelude.{false, ◌||◌, ◌≡◌, ltb, leb}
+use Rattle.std.specs.Prelude.{false, ◌||◌, ◌≡◌, ltb, leb, Ok}
 use Rattle.std.proofs.Math.Bool.{cond}
 use mathlib.Core.List.{List, [], ◌∷◌, ◌++◌, append_assoc, append-nil}
 use Rattle.std.proofs.Math.Path.{refl, sym, ap, ap₂}
@@ -18,9 +18,9 @@ use Rattle.theory.proofs.TestLaws.{test_eq}
 use Rattle.sheet.specs.Entry.{Step, Entry, entry_with, kind_of, truth, negation, conjunction, disjunction, way, comparison, expression, tests, numbers, Short, Below, WellFormedEntry, WellFormedFrom, WellFormed, most_steps}
 use Rattle.sheet.specs.ExpressionLaws.{below-append, well_formed_snoc}
 use Rattle.outcome.specs.Refusals.{first_of}
-use Rattle.sheet.specs.Sheet.{bound_of, count_of, length_of, version_of, head_size, most_version, most_bound, most_entries, most_kind, number_width, step_width, number_at, steps_at, entry_of, entry_in, next_at, entries_at, entries_of, question_of, head_refusal, step_counts, too_large, required, numbers_refusal, body_refusal, kind_refusal, entry_refusal, entries_refusal, sheet_refusal, sheet_answer}
+use Rattle.sheet.specs.Sheet.{bound_of, count_of, length_of, version_of, head_size, most_version, most_bound, most_entries, most_kind, number_width, step_width, number_at, steps_at, entry_of, entry_in, next_at, entries_at, entries_of, question_of, head_refusal, step_counts, too_large, required, numbers_refusal, body_refusal, kind_refusal, entry_refusal, entries_refusal, sheet_refusal, heading, sheet_answer}
 use Rattle.sheet.specs.Encoding.{encode_steps, body_of, encode_entry, encode, header, sheet_bytes, step_labels, labels, Labelled}
-use Rattle.sheet.specs.declared.SheetAnswer.TheVariants.{Accepted}
+use Rattle.outcome.specs.RefusalLaws.{judged-ok}
 
 module _ (v : ℕ) where
   -- ---- sizes
@@ -444,9 +444,9 @@ module _ {v c : ℕ} {es : List Entry} (w : Writable v c es) where
       ∙ entries_good v c 0 es (let f = w.few in omega arith) w.formed.each w.labelled)
 
   -- with its bound and as many entries
-  pub written_answer : sheet_answer (sheet_bytes v c es) ≡ Accepted (length es) c
+  pub written_answer : sheet_answer (sheet_bytes v c es) ≡ Ok (heading (length es) c)
   unfolding sheet_answer
-  written_answer = rw (written_good, written_count, written_bound)
+  written_answer = rw (written_count, written_bound) (judged-ok (sheet_refusal (sheet_bytes v c es)) (heading (length es) c) written_good)
 
   -- and its entries are those
   pub written-entries : entries_of (sheet_bytes v c es) ≡ es

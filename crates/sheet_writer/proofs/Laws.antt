@@ -5,8 +5,9 @@ use Prim.Native.Nat.{ℕ, zero, suc, ◌+◌, ◌-◌, ◌*◌, ◌/◌, ◌%◌
 use native.Mathlib.Nat.{mul-le-mul_left}
 use native.Mathlib.Numerals.{add-one}
 use native.Mathlib.Omega.{arith}
-use lib.ListN.{length, get_or, set, length-append}
+use lib.ListN.{length, get_or, set, take, drop, length-append}
 use lib.Seq.{sets}
+use Rattle.std.proofs.Math.Seq.{drop-cons, drop-length}
 use Rattle.fields.specs.Fields.{bytes_of, with_field}
 use Rattle.fields.specs.Label.{label_width}
 use Rattle.fields.specs.Laws.{length-bytes_of, sets_append}
@@ -15,7 +16,8 @@ use Rattle.sheet.specs.Sheet.{number_width, step_width}
 use Rattle.sheet.specs.Encoding.{encode_steps, body_of, encode_entry, header}
 use Rattle.sheet.proofs.AcceptedLaws.{kind_cases}
 use Rattle.sheet.specs.WrittenLaws.{size_of, length-encode_steps}
-use Rattle.sheet_writer.specs.Writing.{step, steps_from, steps_given, PutEntry, StepsFit, WaysFit, PutPlain, PutWays}
+use Rattle.sheet_writer.specs.Writing.{step, steps_given, given, PutEntry, StepsFit, WaysFit, PutPlain, PutWays}
+use Rattle.sheet_writer.specs.declared.Step.{Step as Given}
 use Rattle.sheet_writer.specs.WritingLaws.{put_entry}
 
 -- one run of bytes behind another
@@ -70,6 +72,9 @@ or-written room exit at i j next w = w
 
 -- ---- steps, one turn at a time
 
+drop-next : (gs : List Given) (i : ℕ) → i < length gs → drop i gs ≡ given gs i ∷ drop (i + 1) gs
+drop-next gs i h = rw (add-one i) (drop-cons gs i (record { label = 0; test = record { 0 = 0 } }) h)
+
 encode_steps-append : (v : ℕ) (ss ts : List Step) → encode_steps v (ss ++ ts) ≡ encode_steps v ss ++ encode_steps v ts
 unfolding encode_steps
 encode_steps-append v [] ts = refl
@@ -81,103 +86,88 @@ unfolding encode_steps with_field
 step-written v room mid exit at a i w d p q =
     rw append-nil (after room at (at + w) (bytes_of (label_width v) a) (bytes_of number_width i) p q (omega (arith, length-bytes_of (label_width v) a)))
 
-pub length-steps_from : (labels tests : List ℕ) (i k : ℕ) → length (steps_from labels tests i k) ≡ k
-unfolding steps_from
-length-steps_from labels tests i zero = refl
-length-steps_from labels tests i (suc k) = ap suc (length-steps_from labels tests (i + 1) k)
+pub length-steps_given : (gs : List Given) → length (steps_given gs) ≡ length gs
+unfolding steps_given
+length-steps_given [] = refl
+length-steps_given (g ∷ gs) = ap suc (length-steps_given gs)
 
-module _ (v : ℕ) (start : List ℕ) (base : ℕ) (labels tests : List ℕ) (count : ℕ) where
+module _ (v : ℕ) (start : List ℕ) (base : ℕ) (gs : List Given) where
   -- what the room holds in the end, where `room` holds the steps before i and the others go to `at`
   abbrev pub Rest : List ℕ → ℕ → ℕ → Type 0
-  Rest room at i = sets start base (encode_steps v (steps_given labels tests count)) ≡ sets room at (encode_steps v (steps_from labels tests i (count - i)))
+  Rest room at i = sets start base (encode_steps v (steps_given gs)) ≡ sets room at (encode_steps v (steps_given (drop i gs)))
 
   -- there is room for step i
-  module _ (fit : StepsFit v start base labels tests count) (i : ℕ) (h : i < count) where
+  module _ (fit : StepsFit v start base gs) (i : ℕ) (h : i < length gs) where
     pub steps_room : (room : List ℕ) (at : ℕ) → at ≡ base + step_width v * i → length room ≡ length start → at + step_width v ≤ length room
     steps_room room at e l = omega (arith, mul-le-mul_left (step_width v) h, fit.inside)
 
-    pub steps-narrow : get_or labels i 0 < 256 ^ label_width v
+    pub steps-narrow : (given gs i).label < 256 ^ label_width v
     steps-narrow = fit.narrow i h
 
-  pub steps_start : Rest start base 0
-  steps_start = ap (λ k. sets start base (encode_steps v (steps_from labels tests 0 k))) (let e : count ≡ count - 0 = omega arith in e)
+  pub steps-count : (at i : ℕ) → at ≡ base + step_width v * i → i ≤ length gs → length gs ≤ i → at ≡ base + step_width v * length gs
+  steps-count at i e h l = rw (let d : length gs ≡ i = omega arith in d) e
 
-  pub steps-count : (at i : ℕ) → at ≡ base + step_width v * i → i ≤ count → count ≤ i → at ≡ base + step_width v * count
-  steps-count at i e h l = rw (let d : count ≡ i = omega arith in d) e
+  pub steps-end : (room : List ℕ) (at i : ℕ) → Rest room at i → i ≤ length gs → length gs ≤ i → room ≡ sets start base (encode_steps v (steps_given gs))
+  unfolding encode_steps steps_given
+  steps-end room at i h l m = sym (rw (let e : i ≡ length gs = omega arith in e, drop-length gs) at h)
 
-  pub steps-end : (room : List ℕ) (at i : ℕ) → Rest room at i → count ≤ i → room ≡ sets start base (encode_steps v (steps_given labels tests count))
-  unfolding encode_steps steps_from
-  steps-end room at i h l = sym (h ∙ none (count - i) (omega arith))
-    where
-      none : (k : ℕ) → k ≡ 0 → sets room at (encode_steps v (steps_from labels tests i k)) ≡ room
-      none k e = rw e
-
-  pub steps_next : (room end : List ℕ) (at i : ℕ) → Rest room at i → i < count
-      → end ≡ sets room at (encode_steps v (step (get_or labels i 0) (get_or tests i 0) ∷ [])) → (to : ℕ) → to ≡ at + step_width v → Rest end to (i + 1)
-  unfolding steps_from
-  steps_next room end at i h l p to d = rw d (h ∙ next (count - i) (count - (i + 1)) (omega arith))
-    where
-      next : (k k' : ℕ) → k ≡ suc k' → sets room at (encode_steps v (steps_from labels tests i k)) ≡ sets end (at + step_width v) (encode_steps v (steps_from labels tests (i + 1) k'))
-      next k k' e =
-          let S = step (get_or labels i 0) (get_or tests i 0) ∷ [] in
-          let T = steps_from labels tests (i + 1) k' in
-          rw (e, p)
-          (ap (sets room at) (encode_steps-append v S T) ∙ sets_append (encode_steps v S) (encode_steps v T) room at
-          ∙ ap (λ n. sets (sets room at (encode_steps v S)) (at + n) (encode_steps v T)) (let l : length (encode_steps v S) ≡ step_width v = omega (arith, length-encode_steps v S) in l))
+  pub steps_next : (room end : List ℕ) (at i : ℕ) → Rest room at i → i < length gs
+      → end ≡ sets room at (encode_steps v (step (given gs i).label (given gs i).test.0 ∷ [])) → (to : ℕ) → to ≡ at + step_width v → Rest end to (i + 1)
+  unfolding steps_given
+  steps_next room end at i h l p to d =
+      let S = step (given gs i).label (given gs i).test.0 ∷ [] in
+      let T = steps_given (drop (i + 1) gs) in
+      rw (d, p)
+      (h ∙ ap (λ gs. sets room at (encode_steps v (steps_given gs))) (drop-next gs i l)
+      ∙ ap (sets room at) (encode_steps-append v S T) ∙ sets_append (encode_steps v S) (encode_steps v T) room at
+      ∙ ap (λ n. sets (sets room at (encode_steps v S)) (at + n) (encode_steps v T)) (let l : length (encode_steps v S) ≡ step_width v = omega (arith, length-encode_steps v S) in l))
 
 -- ---- ways
 
 -- what fits into a room fits into one as long
-module _ (v : ℕ) (room room' : List ℕ) (e : length room' ≡ length room) (at : ℕ) (labels tests : List ℕ) (count : ℕ) where
-  pub steps-kept : StepsFit v room at labels tests count → StepsFit v room' at labels tests count
-  steps-kept f = record { labelled = f.labelled; tested = f.tested; narrow = f.narrow; inside = omega (arith, f.inside) }
+module _ (v : ℕ) (room room' : List ℕ) (e : length room' ≡ length room) where
+  pub steps-kept : (at : ℕ) (gs : List Given) → StepsFit v room at gs → StepsFit v room' at gs
+  steps-kept at gs f = record { narrow = f.narrow; inside = omega (arith, f.inside) }
 
-module _ (v : ℕ) (room room' : List ℕ) (e : length room' ≡ length room) (at : ℕ) (labels tests : List ℕ) (count : ℕ) (labels' tests' : List ℕ) (count' : ℕ)
-    (f : WaysFit v room at labels tests count labels' tests' count') where
-  pub ways-kept : WaysFit v room' at labels tests count labels' tests' count'
-  ways-kept =
-      record {
-        short = f.short;
-        short' = f.short';
-        first = steps-kept v room room' e at labels tests count f.first;
-        second = steps-kept v room room' e (at + step_width v * count) labels' tests' count' f.second;
-      }
+  module _ (at : ℕ) (gs gs' : List Given) (f : WaysFit v room at gs gs') where
+    pub ways-kept : WaysFit v room' at gs gs'
+    ways-kept =
+        record {
+          short = f.short;
+          short' = f.short';
+          first = steps-kept at gs f.first;
+          second = steps-kept (at + step_width v * length gs) gs' f.second;
+        }
 
-  pub second_kept : (to : ℕ) → to ≡ at + step_width v * count → StepsFit v room' to labels' tests' count'
-  second_kept to d = rw d ways-kept.second
+    pub second_kept : (to : ℕ) → to ≡ at + step_width v * length gs → StepsFit v room' to gs'
+    second_kept to d = rw d ways-kept.second
 
-byte_bytes : (k : ℕ) → k < 256 → bytes_of 1 k ≡ k ∷ []
-unfolding bytes_of
-byte_bytes k h = ap (λ x. x ∷ []) (let e : k / 1 % 256 ≡ k = omega arith in e)
-
-pub way-written : (v : ℕ) (room mid end exit : List ℕ) (at k size next : ℕ) (labels tests : List ℕ) → k ≤ 60 → size ≡ step_width v * k → mid ≡ sets room at ((2 + size) ∷ 4 ∷ [])
-    → end ≡ with_field 1 mid (at + 2) k → exit ≡ sets end (at + 3) (encode_steps v (steps_given labels tests k)) → next ≡ at + 3 + step_width v * k
-    → PutEntry v room at (way (steps_given labels tests k)) exit next
-unfolding with_field encode_entry body_of kind_of size_of
-way-written v room mid end exit at k size next labels tests h d p q r e =
-    let S = encode_steps v (steps_given labels tests k) in
-    let l = length-steps_from labels tests 0 k in
-    put_entry v (way (steps_given labels tests k))
-    (after room at (at + 2) ((2 + size) ∷ 4 ∷ []) (k ∷ S) p
-    (after mid (at + 2) (at + 3) (k ∷ []) S (q ∙ ap (sets mid (at + 2)) (byte_bytes k (omega arith))) r (omega arith)) refl
-    ∙ ap₂ (λ a b. sets room at (a ∷ 4 ∷ b ∷ S)) (omega (arith, length-encode_steps v (steps_given labels tests k), ap (λ n. step_width v * n) l)) (sym l)) (omega (arith, ap (λ n. step_width v * n) l))
+pub way-written : (v : ℕ) (room mid exit : List ℕ) (at size next : ℕ) (gs : List Given) → length gs ≤ 60 → size ≡ step_width v * length gs → mid ≡ sets room at ((2 + size) ∷ 4 ∷ [])
+    → exit ≡ sets (set mid (at + 2) (length gs)) (at + 3) (encode_steps v (steps_given gs)) → next ≡ at + 3 + step_width v * length gs
+    → PutEntry v room at (way (steps_given gs)) exit next
+unfolding encode_entry body_of kind_of size_of
+way-written v room mid exit at size next gs h d p r e =
+    let S = encode_steps v (steps_given gs) in
+    let l = length-steps_given gs in
+    put_entry v (way (steps_given gs))
+    (after room at (at + 2) ((2 + size) ∷ 4 ∷ []) (length gs ∷ S) p
+    (after mid (at + 2) (at + 3) (length gs ∷ []) S refl r (omega arith)) refl
+    ∙ ap₂ (λ a b. sets room at (a ∷ 4 ∷ b ∷ S)) (omega (arith, length-encode_steps v (steps_given gs), ap (λ n. step_width v * n) l)) (sym l)) (omega (arith, ap (λ n. step_width v * n) l))
 
 pub counts_written : (v : ℕ) (room mid exit : List ℕ) (at kind k j size : ℕ) → size ≡ step_width v * (k + j) → mid ≡ sets room at ((3 + size) ∷ kind ∷ []) → exit ≡ sets mid (at + 2) (k ∷ j ∷ [])
     → exit ≡ sets room at ((3 + step_width v * (k + j)) ∷ kind ∷ k ∷ j ∷ [])
 counts_written v room mid exit at kind k j size d p q = rw (← d) (after room at (at + 2) ((3 + size) ∷ kind ∷ []) (k ∷ j ∷ []) p q refl)
 
-pub ways-written : (v : ℕ) (room mid exit : List ℕ) (at k j to next : ℕ) (labels tests labels' tests' : List ℕ)
-    → mid ≡ sets room at (encode_steps v (steps_given labels tests k)) → to ≡ at + step_width v * k → exit ≡ sets mid to (encode_steps v (steps_given labels' tests' j)) → next ≡ to + step_width v * j
-    → PutWays v room at (steps_given labels tests k) (steps_given labels' tests' j) exit next
-ways-written v room mid exit at k j to next labels tests labels' tests' p t q e =
-    let m = length-steps_from labels tests 0 k in
-    let m' = length-steps_from labels' tests' 0 j in
-    let S = encode_steps v (steps_given labels tests k) in
-    let S' = encode_steps v (steps_given labels' tests' j) in
-    let n = length-encode_steps v (steps_given labels tests k) in
-    let w = ap (λ i. step_width v * i) m in
-    let w' = ap (λ i. step_width v * i) m' in
-    record { left = after room at to S S' p q (omega (arith, n, w)); end = omega (arith, n, w, w', length-encode_steps v (steps_given labels' tests' j), length-append S S') }
+pub ways-written : (v : ℕ) (room mid exit : List ℕ) (at to next : ℕ) (gs gs' : List Given)
+    → mid ≡ sets room at (encode_steps v (steps_given gs)) → to ≡ at + step_width v * length gs → exit ≡ sets mid to (encode_steps v (steps_given gs')) → next ≡ to + step_width v * length gs'
+    → PutWays v room at (steps_given gs) (steps_given gs') exit next
+ways-written v room mid exit at to next gs gs' p t q e =
+    let S = encode_steps v (steps_given gs) in
+    let S' = encode_steps v (steps_given gs') in
+    let n = length-encode_steps v (steps_given gs) in
+    let w = ap (λ i. step_width v * i) (length-steps_given gs) in
+    let w' = ap (λ i. step_width v * i) (length-steps_given gs') in
+    record { left = after room at to S S' p q (omega (arith, n, w)); end = omega (arith, n, w, w', length-encode_steps v (steps_given gs'), length-append S S') }
 
 -- the bytes of a same or a differ
 comparison_bytes : (v : ℕ) (s s' : List Step) (n k : ℕ) → k ≤ 6 → 5 ≤ k → n ≡ 3 + length (encode_steps v s ++ encode_steps v s')
@@ -195,21 +185,21 @@ comparison_bytes v s s' n =
         ≡ n ∷ k ∷ length s ∷ length s' ∷ (encode_steps v s ++ encode_steps v s')
     counted k e = ap (λ n. n ∷ k ∷ length s ∷ length s' ∷ (encode_steps v s ++ encode_steps v s')) (omega arith)
 
-pub comparison-written : (v : ℕ) (room mid exit : List ℕ) (at kind k j next : ℕ) (labels tests labels' tests' : List ℕ) → 5 ≤ kind → kind ≤ 6
-    → mid ≡ sets room at ((3 + step_width v * (k + j)) ∷ kind ∷ k ∷ j ∷ [])
-    → PutWays v mid (at + 4) (steps_given labels tests k) (steps_given labels' tests' j) exit next
-    → PutEntry v room at (entry_with kind 0 0 (steps_given labels tests k) (steps_given labels' tests' j)) exit next
-comparison-written v room mid exit at kind k j next labels tests labels' tests' h l p w =
-    let s = steps_given labels tests k in
-    let s' = steps_given labels' tests' j in
+pub comparison-written : (v : ℕ) (room mid exit : List ℕ) (at kind next : ℕ) (gs gs' : List Given) → 5 ≤ kind → kind ≤ 6
+    → mid ≡ sets room at ((3 + step_width v * (length gs + length gs')) ∷ kind ∷ length gs ∷ length gs' ∷ [])
+    → PutWays v mid (at + 4) (steps_given gs) (steps_given gs') exit next
+    → PutEntry v room at (entry_with kind 0 0 (steps_given gs) (steps_given gs')) exit next
+comparison-written v room mid exit at kind next gs gs' h l p w =
+    let s = steps_given gs in
+    let s' = steps_given gs' in
     let S = encode_steps v s in
     let S' = encode_steps v s' in
-    let m = length-steps_from labels tests 0 k in
-    let m' = length-steps_from labels' tests' 0 j in
+    let m = length-steps_given gs in
+    let m' = length-steps_given gs' in
     let w₁ = ap (λ i. step_width v * i) m in
     let w₂ = ap (λ i. step_width v * i) m' in
-    let (b, z) = comparison_bytes v s s' (3 + step_width v * (k + j)) kind l h (omega (arith, length-append S S', length-encode_steps v s, length-encode_steps v s', w₁, w₂)) in
+    let (b, z) = comparison_bytes v s s' (3 + step_width v * (length gs + length gs')) kind l h (omega (arith, length-append S S', length-encode_steps v s, length-encode_steps v s', w₁, w₂)) in
     put_entry v (entry_with kind 0 0 s s')
-    (after room at (at + 4) ((3 + step_width v * (k + j)) ∷ kind ∷ k ∷ j ∷ []) (S ++ S') p w.left refl
-    ∙ ap₂ (λ a c. sets room at ((3 + step_width v * (k + j)) ∷ kind ∷ a ∷ c ∷ (S ++ S'))) (sym m) (sym m') ∙ ap (sets room at) (sym b))
+    (after room at (at + 4) ((3 + step_width v * (length gs + length gs')) ∷ kind ∷ length gs ∷ length gs' ∷ []) (S ++ S') p w.left refl
+    ∙ ap₂ (λ a c. sets room at ((3 + step_width v * (length gs + length gs')) ∷ kind ∷ a ∷ c ∷ (S ++ S'))) (sym m) (sym m') ∙ ap (sets room at) (sym b))
     (omega (arith, w.end, length-append S S', length-encode_steps v s, length-encode_steps v s', w₁, w₂))

@@ -5,33 +5,32 @@ use Rattle.fields.specs.Runs.{PutBytes}
 use Rattle.sheet.specs.Entry.{Step, Entry}
 use Rattle.sheet.specs.Sheet.{head_size, most_bound, step_width}
 use Rattle.sheet.specs.Encoding.{encode_steps, encode_entry, encode}
+use Rattle.sheet_writer.specs.declared.Step.{Step as Given}
 
 -- A step.
 abbrev pub step : ℕ → ℕ → Step
 step label test = record { label = label; test = test }
 
--- The k steps from index i on whose labels and tests are given.
-unfoldable pub steps_from : List ℕ → List ℕ → ℕ → ℕ → List Step
-steps_from labels tests i zero = []
-steps_from labels tests i (suc k) = step (get_or labels i 0) (get_or tests i 0) ∷ steps_from labels tests (i + 1) k
+-- The steps that are given, as an entry has them.
+unfoldable pub steps_given : List Given → List Step
+steps_given [] = []
+steps_given (g ∷ gs) = step g.label g.test.0 ∷ steps_given gs
 
--- The first k steps.
-abbrev pub steps_given : List ℕ → List ℕ → ℕ → List Step
-steps_given labels tests k = steps_from labels tests 0 k
+-- Step i of them.
+abbrev pub given : List Given → ℕ → Given
+given gs i = get_or gs i (record { label = 0; test = record { 0 = 0 } })
 
--- The labels and tests of `count` steps are given, each label has room in its bytes, and the steps have room at `at`.
-pub record StepsFit (v : ℕ) (room : List ℕ) (at : ℕ) (labels tests : List ℕ) (count : ℕ) : Type 0 where
-  pub labelled : count ≤ length labels
-  pub tested : count ≤ length tests
-  pub narrow : (i : ℕ) → i < count → get_or labels i 0 < 256 ^ label_width v
-  pub inside : at + step_width v * count ≤ length room
+-- Each label has room in its bytes, and the steps have room at `at`.
+pub record StepsFit (v : ℕ) (room : List ℕ) (at : ℕ) (gs : List Given) : Type 0 where
+  pub narrow : (i : ℕ) → i < length gs → (given gs i).label < 256 ^ label_width v
+  pub inside : at + step_width v * length gs ≤ length room
 
 -- The same for two ways, one behind the other, each of at most 4 steps.
-pub record WaysFit (v : ℕ) (room : List ℕ) (at : ℕ) (labels tests : List ℕ) (count : ℕ) (labels' tests' : List ℕ) (count' : ℕ) : Type 0 where
-  pub short : count ≤ most_bound
-  pub short' : count' ≤ most_bound
-  pub first : StepsFit v room at labels tests count
-  pub second : StepsFit v room (at + step_width v * count) labels' tests' count'
+pub record WaysFit (v : ℕ) (room : List ℕ) (at : ℕ) (gs gs' : List Given) : Type 0 where
+  pub short : length gs ≤ most_bound
+  pub short' : length gs' ≤ most_bound
+  pub first : StepsFit v room at gs
+  pub second : StepsFit v room (at + step_width v * length gs) gs'
 
 -- The entry e was put into the room at `at`, and nothing else changed; `next` is the byte after it.
 abbrev pub PutEntry : ℕ → List ℕ → ℕ → Entry → List ℕ → ℕ → Type 0

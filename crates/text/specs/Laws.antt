@@ -48,7 +48,7 @@ length-decimal_hundreds n h =
     omega (arith, ap length (decimal_hundreds n h), length-append (decimal (n / 100)) (digit (n % 100 / 10) ∷ digit (n % 100 % 10) ∷ []))
 
 -- a number below ten to the k has at most k digits
-length-numeral : (k more n : ℕ) → n < 10 ^ suc k → length (numeral more n) ≤ suc k
+pub length-numeral : (k more n : ℕ) → n < 10 ^ suc k → length (numeral more n) ≤ suc k
 unfolding numeral
 length-numeral k zero n h = omega arith
 length-numeral zero (suc more) n h = rw (lt-ltb n 10 (omega arith)) (omega arith)

@@ -1,9 +1,9 @@
 // Text written into lent bytes, one piece behind another.
 #![tactic(auto)]
 
-ghost use Rattle.std.specs.Prelude.{[], ◌∷◌, ◌≡◌, ◌+◌, ◌/◌, ◌%◌, ◌≤◌, ◌<◌, length};
+ghost use Rattle.std.specs.Prelude.{[], ◌∷◌, ◌≡◌, ◌+◌, ◌^◌, ◌≤◌, ◌<◌, length};
 ghost use Rattle.fields.specs.Runs.{PutBytes};
-ghost use Rattle.text.specs.Text.{digit, decimal, labelled, ending, most_digits, Wrote};
+ghost use Rattle.text.specs.Text.{decimal, labelled, ending, most_digits, Wrote};
 
 // Writes a byte at `at`, and gives the place after it.
 pub fn put_byte(room: &mut [u8], at: usize, byte: u8) -> usize
@@ -14,32 +14,11 @@ pub fn put_byte(room: &mut [u8], at: usize, byte: u8) -> usize
     at + 1
 }
 
-// How many digits a 16-bit number has in base ten: at most 5.
-pub fn digits(n: u16) -> u64
-    ensures { (result ≡ length (decimal n)) × (result ≤ 5) }
+// How many digits a number has in base ten: at most 20, and of 16 bits at most 5.
+pub fn digits(n: u64) -> u64
+    ensures { (result ≡ length (decimal n)) × (result ≤ most_digits) × (n < 2 ^ 16 → result ≤ 5) }
 {
-    if n < 10 {
-        return 1;
-    }
-    if n < 100 {
-        return 2;
-    }
-    if n < 1000 {
-        return 3;
-    }
-    if n < 10000 {
-        return 4;
-    }
-    5
-}
-
-// Writes the two digits of a number below 100 at `at`, and gives the place after them.
-fn put_two_digits(room: &mut [u8], at: usize, n: u64) -> usize
-    requires { (n < 100) × (at + 2 ≤ length room.old) }
-    ensures { PutBytes room.old at (digit (n / 10) ∷ digit (n % 10) ∷ []) room.new result }
-{
-    let next = put_byte(room, at, 48 + (n / 10) as u8);
-    put_byte(room, next, 48 + (n % 10) as u8)
+    n.max(1).ilog10() as u64 + 1
 }
 
 // Writes a number in base ten at `at`, and gives the place after it.
@@ -47,18 +26,9 @@ pub fn put_number(room: &mut [u8], at: usize, n: u64) -> usize
     requires { at + length (decimal n) ≤ length room.old }
     ensures { PutBytes room.old at (decimal n) room.new result }
 {
-    if n < 10 {
-        return put_byte(room, at, 48 + n as u8);
-    }
-    if n < 100 {
-        return put_two_digits(room, at, n);
-    }
-    if n < 1000 {
-        let next = put_byte(room, at, 48 + (n / 100) as u8);
-        return put_two_digits(room, next, n % 100);
-    }
-    let next = put_number(room, at, n / 100);
-    put_two_digits(room, next, n % 100)
+    let end = at + digits(n) as usize;
+    itoa::write_digits(n, room, end);
+    end
 }
 
 // Writes a text at `at`, and gives the byte after it.
@@ -66,12 +36,9 @@ pub fn put(room: &mut [u8], at: usize, text: &[u8]) -> usize
     requires { at + length text.now ≤ length room.old }
     ensures { Wrote room.old at text.now (length text.now) room.new result }
 {
-    let mut i = 0;
-    while i < text.len() {
-        room[at + i] = text[i];
-        i += 1;
-    }
-    at + i
+    let end = at + text.len();
+    room[at..end].copy_from_slice(text);
+    end
 }
 
 // Writes a name and a number at `at`, and gives the byte after them.

@@ -1,5 +1,4 @@
 pub mod Truth
-pub mod Entered
 pub mod SeenCells
 pub mod OutcomeLaws
 pub mod SecrecyLaws

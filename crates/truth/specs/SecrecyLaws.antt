@@ -1,10 +1,11 @@
 -- What is hidden does not tell (02, 2026-07): "Suppose accepted books keep cell count, version and word, and differ only in recordings of hidden
 -- cells and links touching them"; then "Truth's words for one sheet are alike", and so is all that Claim says.
-use Rattle.std.specs.Prelude.{List, ◌++◌, ◌≡◌, ℕ, length}
+use Rattle.std.specs.Prelude.{Bool, List, ◌++◌, ◌≡◌, ℕ, length, Result, Ok, Err}
 use Rattle.std.proofs.Math.Path.{refl, ap}
 use Rattle.std.proofs.Common.{sym, ap₂, ◌∙◌}
 use Rattle.theory.specs.Search.{list}
 use Rattle.theory.specs.Graph.{Graph}
+use Rattle.outcome.specs.declared.Refused.{Refused}
 use Rattle.book.specs.Book.{book_refusal}
 use Rattle.book.specs.BookGraph.{hides_beyond}
 use Rattle.book.specs.Contents.{SameSeen}
@@ -12,10 +13,6 @@ use Rattle.book.specs.SeenLaws.{seen_alike}
 use Rattle.book.specs.declared.Hidden.{Hidden}
 use Rattle.sheet.specs.Sheet.{question_of}
 use Rattle.evaluate.specs.QuestionWord.{truth_word}
-use Rattle.truth.specs.declared.TruthAnswer.{TruthAnswer}
-use Rattle.truth.specs.declared.TruthAnswer.TheVariants as told
-use Rattle.truth.specs.declared.ClaimAnswer.{ClaimAnswer}
-use Rattle.truth.specs.declared.ClaimAnswer.TheVariants as claimed
 use Rattle.truth.specs.Truth.{first_words, truth_answer, left_by, parts, claim_answer, left_by_claim, IsTruth, IsClaim}
 
 -- ---- Truth
@@ -32,33 +29,22 @@ module _ (b b' : List ℕ) (h : ℕ) (p : book_refusal b ≡ 0) (p' : book_refus
   unfolding truth_answer
   answer_alike s m = rw (p, p', beyond_alike)
 
-  left_alike : (s ws : List ℕ) (a : TruthAnswer) → left_by b h s ws a ≡ left_by b' h s ws a
+  left_alike : (s ws : List ℕ) (a : Result (Unit {0}) Refused) → left_by b h s ws a ≡ left_by b' h s ws a
   unfolding left_by
-  left_alike s ws told.Done = words_alike s _ ws
-  left_alike s ws (told.BookRefused refusal) = refl
-  left_alike s ws told.HiddenBeyond = refl
-  left_alike s ws (told.SheetRefused refusal) = refl
-  left_alike s ws told.FewWords = refl
+  left_alike s ws (Ok _) = words_alike s _ ws
+  left_alike s ws (Err _) = refl
 
   -- two calls with one sheet and the same words at entry have the same answer and the same words at exit
-  pub truth_alike : (s ws ws₁ ws₂ : List ℕ) (a₁ a₂ : TruthAnswer) → IsTruth b h s ws a₁ ws₁ → IsTruth b' h s ws a₂ ws₂
+  pub truth_alike : (s ws ws₁ ws₂ : List ℕ) (a₁ a₂ : Result (Unit {0}) Refused) → IsTruth b h s ws a₁ ws₁ → IsTruth b' h s ws a₂ ws₂
       → (a₁ ≡ a₂) × (ws₁ ≡ ws₂)
   truth_alike s ws ws₁ ws₂ a₁ a₂ x y =
       let e = answer_alike s (length ws) in
       (x.answer ∙ e ∙ sym y.answer, x.words ∙ ap (left_by b h s ws) e ∙ left_alike s ws _ ∙ sym y.words)
 
-  claimed_alike : (s ws : List ℕ) (a : ClaimAnswer) → left_by_claim b h s ws a ≡ left_by_claim b' h s ws a
+  claimed_alike : (s ws : List ℕ) (a : Result Bool Refused) → left_by_claim b h s ws a ≡ left_by_claim b' h s ws a
   unfolding left_by_claim
-  claimed_alike s ws claimed.Yes = words_alike s _ ws
-  claimed_alike s ws claimed.No = words_alike s _ ws
-  claimed_alike s ws (claimed.LeftRefused refusal) = refl
-  claimed_alike s ws (claimed.RightRefused refusal) = refl
-  claimed_alike s ws claimed.LeftHidden = refl
-  claimed_alike s ws claimed.RightHidden = refl
-  claimed_alike s ws (claimed.SheetRefused refusal) = refl
-  claimed_alike s ws claimed.FewWords = refl
-  claimed_alike s ws claimed.NoEntry = refl
-  claimed_alike s ws claimed.NoCell = refl
+  claimed_alike s ws (Ok _) = words_alike s _ ws
+  claimed_alike s ws (Err _) = refl
 
 -- ---- Claim
 module _ (l l' r r' : List ℕ) (h : Hidden) (p : book_refusal l ≡ 0) (p' : book_refusal l' ≡ 0) (q : book_refusal r ≡ 0) (q' : book_refusal r' ≡ 0)
@@ -72,7 +58,7 @@ module _ (l l' r r' : List ℕ) (h : Hidden) (p : book_refusal l ≡ 0) (p' : bo
   claim_answer_alike s k i j m =
       rw (parts_alike s k i j, p, p', q, q', beyond_alike l l' h.left p p' d, beyond_alike r r' h.right q q' e, d.cells, e.cells)
 
-  pub claim_alike : (s : List ℕ) (k i j : ℕ) (ws ws₁ ws₂ : List ℕ) (a₁ a₂ : ClaimAnswer) → IsClaim l r h s k i j ws a₁ ws₁ → IsClaim l' r' h s k i j ws a₂ ws₂
+  pub claim_alike : (s : List ℕ) (k i j : ℕ) (ws ws₁ ws₂ : List ℕ) (a₁ a₂ : Result Bool Refused) → IsClaim l r h s k i j ws a₁ ws₁ → IsClaim l' r' h s k i j ws a₂ ws₂
       → (a₁ ≡ a₂) × (ws₁ ≡ ws₂)
   claim_alike s k i j ws ws₁ ws₂ a₁ a₂ x y =
       let f = claim_answer_alike s k i j (length ws) in

@@ -1,17 +1,17 @@
 -- Truth and Claim (01, "The operations and when they decline"), of books whose cells are hidden in part (02, 2026-07).
-use Rattle.std.specs.Prelude.{Bool, cond, not, ◌&&◌, ◌||◌, List, ◌++◌, ◌≡◌, ℕ, eqb, ltb, leb, length, drop}
+use Rattle.std.specs.Prelude.{Bool, cond, not, ◌&&◌, ◌||◌, List, ◌++◌, ◌≡◌, ℕ, eqb, ltb, leb, length, drop, Result, Ok, Err}
 use Rattle.theory.specs.Search.{list}
 use Rattle.theory.specs.Meaning.{holds}
-use Rattle.outcome.specs.Outcome.{Outcome, accepted, refused, of_call, of_left_book, of_right_book, of_sheet, code}
+use Rattle.outcome.specs.Outcome.{Outcome, accepted, code}
+use Rattle.outcome.specs.Refused.{named, of_part, declined}
+use Rattle.outcome.specs.declared.Refusal.TheVariants as says
+use Rattle.outcome.specs.declared.Part.TheVariants as part
+use Rattle.outcome.specs.declared.Refused.{Refused}
 use Rattle.book.specs.Book.{cells_of, book_refusal}
 use Rattle.book.specs.BookGraph.{hides, hides_beyond, seen_of}
 use Rattle.book.specs.declared.Hidden.{Hidden}
 use Rattle.sheet.specs.Sheet.{count_of, question_of, sheet_refusal}
 use Rattle.evaluate.specs.QuestionWord.{truth_word}
-use Rattle.truth.specs.declared.TruthAnswer.{TruthAnswer}
-use Rattle.truth.specs.declared.TruthAnswer.TheVariants as told
-use Rattle.truth.specs.declared.ClaimAnswer.{ClaimAnswer}
-use Rattle.truth.specs.declared.ClaimAnswer.TheVariants as claimed
 
 -- ---- Truth
 
@@ -26,28 +26,22 @@ abbrev pub truth_words : List ℕ → ℕ → List ℕ → List ℕ → List ℕ
 truth_words b h s ws = first_words b h s (count_of s) ws
 
 -- "Book's refusal, sheet's refusal, 24: fewer than q words", where m words are lent; and 31, "directly after the checks of all books given".
-unfoldable pub truth_answer : List ℕ → ℕ → List ℕ → ℕ → TruthAnswer
+unfoldable pub truth_answer : List ℕ → ℕ → List ℕ → ℕ → Result (Unit {0}) Refused
 truth_answer b h s m =
-    cond (not (eqb (book_refusal b) 0)) (told.BookRefused (book_refusal b))
-    (cond (hides_beyond h b) told.HiddenBeyond
-    (cond (not (eqb (sheet_refusal s) 0)) (told.SheetRefused (sheet_refusal s))
-    (cond (ltb m (count_of s)) told.FewWords told.Done)))
+    cond (not (eqb (book_refusal b) 0)) (Err (of_part part.LeftBook (named (book_refusal b))))
+    (cond (hides_beyond h b) (Err (of_part part.LeftBook says.HiddenBeyond))
+    (cond (not (eqb (sheet_refusal s) 0)) (Err (of_part part.Sheet (named (sheet_refusal s))))
+    (cond (ltb m (count_of s)) (Err (of_part part.Call says.FewWords)) (Ok tt))))
 
 -- 01's number of each answer, and the part that a refusal speaks of.
-abbrev pub truth_outcome : TruthAnswer → Outcome
-truth_outcome told.Done = accepted 0 0
-truth_outcome (told.BookRefused refusal) = refused of_left_book refusal
-truth_outcome told.HiddenBeyond = refused of_left_book 31
-truth_outcome (told.SheetRefused refusal) = refused of_sheet refusal
-truth_outcome told.FewWords = refused of_call 24
+abbrev pub truth_outcome : Result (Unit {0}) Refused → Outcome
+truth_outcome (Ok _) = accepted 0 0
+truth_outcome (Err r) = declined r
 
 -- The words after an answer: "a refusal is a number; buffers stay untouched".
-unfoldable pub left_by : List ℕ → ℕ → List ℕ → List ℕ → TruthAnswer → List ℕ
-left_by b h s ws told.Done = truth_words b h s ws
-left_by b h s ws (told.BookRefused refusal) = ws
-left_by b h s ws told.HiddenBeyond = ws
-left_by b h s ws (told.SheetRefused refusal) = ws
-left_by b h s ws told.FewWords = ws
+unfoldable pub left_by : List ℕ → ℕ → List ℕ → List ℕ → Result (Unit {0}) Refused → List ℕ
+left_by b h s ws (Ok _) = truth_words b h s ws
+left_by b h s ws (Err _) = ws
 
 -- The words that Truth leaves.
 abbrev pub truth_leaves : List ℕ → ℕ → List ℕ → List ℕ → List ℕ
@@ -63,43 +57,27 @@ parts l r h s k i j =
 
 -- "Left, right, sheet refusals, 24, 25: entry not below q, 26: a cell not in its book", where m words are lent; and 31, "directly after the
 -- checks of all books given, the left word first, with its side where there are two".
-unfoldable pub claim_answer : List ℕ → List ℕ → Hidden → List ℕ → ℕ → ℕ → ℕ → ℕ → ClaimAnswer
+unfoldable pub claim_answer : List ℕ → List ℕ → Hidden → List ℕ → ℕ → ℕ → ℕ → ℕ → Result Bool Refused
 claim_answer l r h s k i j m =
-    cond (not (eqb (book_refusal l) 0)) (claimed.LeftRefused (book_refusal l))
-    (cond (not (eqb (book_refusal r) 0)) (claimed.RightRefused (book_refusal r))
-    (cond (hides_beyond h.left l) claimed.LeftHidden
-    (cond (hides_beyond h.right r) claimed.RightHidden
-    (cond (not (eqb (sheet_refusal s) 0)) (claimed.SheetRefused (sheet_refusal s))
-    (cond (ltb m (count_of s)) claimed.FewWords
-    (cond (leb (count_of s) k) claimed.NoEntry
-    (cond (leb (cells_of l) i || leb (cells_of r) j) claimed.NoCell
-    (cond (parts l r h s k i j) claimed.Yes claimed.No))))))))
+    cond (not (eqb (book_refusal l) 0)) (Err (of_part part.LeftBook (named (book_refusal l))))
+    (cond (not (eqb (book_refusal r) 0)) (Err (of_part part.RightBook (named (book_refusal r))))
+    (cond (hides_beyond h.left l) (Err (of_part part.LeftBook says.HiddenBeyond))
+    (cond (hides_beyond h.right r) (Err (of_part part.RightBook says.HiddenBeyond))
+    (cond (not (eqb (sheet_refusal s) 0)) (Err (of_part part.Sheet (named (sheet_refusal s))))
+    (cond (ltb m (count_of s)) (Err (of_part part.Call says.FewWords))
+    (cond (leb (count_of s) k) (Err (of_part part.Call says.NoEntry))
+    (cond (leb (cells_of l) i || leb (cells_of r) j) (Err (of_part part.Call says.NoPlace))
+    (Ok (parts l r h s k i j)))))))))
 
 -- 01's number of each answer, 1 for yes, and the part that a refusal speaks of.
-abbrev pub claim_outcome : ClaimAnswer → Outcome
-claim_outcome claimed.Yes = accepted 1 0
-claim_outcome claimed.No = accepted 0 0
-claim_outcome (claimed.LeftRefused refusal) = refused of_left_book refusal
-claim_outcome (claimed.RightRefused refusal) = refused of_right_book refusal
-claim_outcome claimed.LeftHidden = refused of_left_book 31
-claim_outcome claimed.RightHidden = refused of_right_book 31
-claim_outcome (claimed.SheetRefused refusal) = refused of_sheet refusal
-claim_outcome claimed.FewWords = refused of_call 24
-claim_outcome claimed.NoEntry = refused of_call 25
-claim_outcome claimed.NoCell = refused of_call 26
+abbrev pub claim_outcome : Result Bool Refused → Outcome
+claim_outcome (Ok told) = accepted (cond told 1 0) 0
+claim_outcome (Err r) = declined r
 
 -- The words after an answer: "the words end as Truth of the right book", for yes and for no; on a refusal they stay.
-unfoldable pub left_by_claim : List ℕ → ℕ → List ℕ → List ℕ → ClaimAnswer → List ℕ
-left_by_claim r h s ws claimed.Yes = truth_words r h s ws
-left_by_claim r h s ws claimed.No = truth_words r h s ws
-left_by_claim r h s ws (claimed.LeftRefused refusal) = ws
-left_by_claim r h s ws (claimed.RightRefused refusal) = ws
-left_by_claim r h s ws claimed.LeftHidden = ws
-left_by_claim r h s ws claimed.RightHidden = ws
-left_by_claim r h s ws (claimed.SheetRefused refusal) = ws
-left_by_claim r h s ws claimed.FewWords = ws
-left_by_claim r h s ws claimed.NoEntry = ws
-left_by_claim r h s ws claimed.NoCell = ws
+unfoldable pub left_by_claim : List ℕ → ℕ → List ℕ → List ℕ → Result Bool Refused → List ℕ
+left_by_claim r h s ws (Ok _) = truth_words r h s ws
+left_by_claim r h s ws (Err _) = ws
 
 -- The words that Claim leaves.
 abbrev pub claim_leaves : List ℕ → List ℕ → Hidden → List ℕ → ℕ → ℕ → ℕ → List ℕ → List ℕ
@@ -113,7 +91,7 @@ pub record Told {A : Type 0} (right : A) (leaves : List ℕ) (a : A) (ws : List 
   pub words : ws ≡ leaves
 
 -- Truth of the book b, whose cells h hides, and the sheet s with the words ws: its answer a, and the words ws' at exit.
-abbrev pub IsTruth : List ℕ → ℕ → List ℕ → List ℕ → TruthAnswer → List ℕ → Type 0
+abbrev pub IsTruth : List ℕ → ℕ → List ℕ → List ℕ → Result (Unit {0}) Refused → List ℕ → Type 0
 IsTruth b h s ws a ws' = Told (truth_answer b h s (length ws)) (truth_leaves b h s ws) a ws'
 
 -- The same, with the answer as one number.
@@ -122,7 +100,7 @@ IsTruthCode b h s ws v ws' = Told (code (truth_outcome (truth_answer b h s (leng
 
 -- Claim of the books l and r, whose cells h hides, entry k of the sheet s and the cells i and j with the words ws: its answer a, and the words
 -- ws' at exit.
-abbrev pub IsClaim : List ℕ → List ℕ → Hidden → List ℕ → ℕ → ℕ → ℕ → List ℕ → ClaimAnswer → List ℕ → Type 0
+abbrev pub IsClaim : List ℕ → List ℕ → Hidden → List ℕ → ℕ → ℕ → ℕ → List ℕ → Result Bool Refused → List ℕ → Type 0
 IsClaim l r h s k i j ws a ws' = Told (claim_answer l r h s k i j (length ws)) (claim_leaves l r h s k i j ws) a ws'
 
 -- The same, with the answer as one number.

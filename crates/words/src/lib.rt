@@ -1,9 +1,9 @@
 // Sets of up to 64 cells, as words: cell i is in the set where bit i is set.
 #![tactic(auto)]
 
-ghost use Rattle.std.specs.Prelude.{◌≡◌, true, ◌↔◌, ◌-◌, ◌^◌, ◌≤◌, ◌<◌};
+ghost use Rattle.std.specs.Prelude.{◌≡◌, ℕ, Bool, true, ◌↔◌, ◌-◌, ◌^◌, ◌≤◌, ◌<◌};
 ghost use Rattle.std.specs.Int.Bits.{bit_and, bit_or};
-ghost use Rattle.words.specs.Words.{bit, IsCount, IsLowest, IsWithout, Inside, IsMinus};
+ghost use Rattle.words.specs.Words.{bit, word_of, IsCount, IsLowest, IsWithout, Inside, IsMinus};
 
 // Whether cell i is in w.
 pub fn has(w: u64, i: u8) -> bool
@@ -89,4 +89,19 @@ pub fn without(w: u64, i: u8) -> u64
     ensures { IsWithout w i result }
 {
     w & (w - 1)
+}
+
+// The set of those of the n lowest cells of which a test holds.
+pub fn those<F: Fn(usize) -> bool>(n: usize, test: F) -> u64
+    requires few { n ≤ 64 }
+    requires callable { (x : ℕ) → x < n → F.pre test x }
+    ensures { (p : ℕ → Bool) → ((x : ℕ) (r : Bool) → x < n → F.post test x r → r ≡ p x) → result ≡ word_of n p }
+{
+    let mut out = 0u64;
+    for x in 0..n {
+        if test(x) {
+            out = with(out, x as u8);
+        }
+    }
+    out
 }

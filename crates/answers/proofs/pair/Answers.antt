@@ -1,9 +1,6 @@
 -- `answers::pair` meets its contract.
-use Rattle.answers.proofs.PairExits.{checked_good, checked-count, checked_refused}
+use Rattle.answers.proofs.PairExits.{pair_refused}
 use Rattle.answers.proofs.pair.Goals as goal
 
-pub pair_of-requires : goal.pair_of-requires
-pair_of-requires c = (search checked_good, search checked-count)
-
-pub returns-in-Refused : goal.returns-in-Refused
-returns-in-Refused c = search checked_refused
+pub returns-in-Err : goal.returns-in-Err
+returns-in-Err c = search (pair_refused, c.in-Err.ensures.refusal)

@@ -5,8 +5,8 @@ use Rattle.answers.proofs.pair_of.Goals as goal
 pub returns-then-map-place : goal.returns-then-map-place
 returns-then-map-place c = search pair_outside
 
-pub returns-then-q-number : goal.returns-then-q-number
-returns-then-q-number c = search pair_unknown
+pub returns-then-entries-question : goal.returns-then-entries-question
+returns-then-entries-question c = search pair_unknown
 
 pub returns-in-Matched : goal.returns-in-Matched
 returns-in-Matched c = search pair_matched
@@ -14,5 +14,5 @@ returns-in-Matched c = search pair_matched
 pub returns-in-Hidden : goal.returns-in-Hidden
 returns-in-Hidden c = search pair_hidden
 
-pub returns-else-q-number : goal.returns-else-q-number
-returns-else-q-number c = search pair_known
+pub returns-else-entries-question : goal.returns-else-entries-question
+returns-else-entries-question c = search pair_known

@@ -1,9 +1,5 @@
-use Prim.Native.Nat.{◌-◌, ◌≤◌}
 use Rattle.book.proofs.Laws.{Lower}
 use Rattle.book.proofs.first_by_counts.Given as goal
 
 abbrev pub invariant-loop-k : goal.invariant-loop-k
-invariant-loop-k l = Lower l.bytes l.cells l.cell l.k × (l.k ≤ l.links)
-
-abbrev pub decreases-loop-k : goal.decreases-loop-k
-decreases-loop-k l = l.links - l.k
+invariant-loop-k l = Lower l.bytes l.cells l.cell l.k

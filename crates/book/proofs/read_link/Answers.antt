@@ -8,14 +8,14 @@ link_place-at-requires c = (search head_long, search head_few)
 pub version_of-version-requires : goal.version_of-version-requires
 version_of-version-requires c = search head_long
 
-pub get1-from-requires : goal.get1-from-requires
-get1-from-requires c = search from_room
+pub bounds-bytes-at : goal.bounds-bytes-at
+bounds-bytes-at c = search from_room
 
 pub get_label-label-requires : goal.get_label-label-requires
 get_label-label-requires c = search label_room
 
-pub get1-to-requires : goal.get1-to-requires
-get1-to-requires c = search to_room
+pub bounds-bytes-at-2 : goal.bounds-bytes-at-2
+bounds-bytes-at-2 c = search to_room
 
 pub returns : goal.returns
 returns c = search link_read

@@ -1,9 +1,12 @@
 -- `compare::compare_code` meets its contract.
-use Rattle.compare.proofs.Exits.{first_small, second_small, compare_coded}
+use Rattle.compare.proofs.Exits.{values, compare_coded}
 use Rattle.compare.proofs.compare_code.Goals as goal
 
-pub compare_number-requires : goal.compare_number-requires
-compare_number-requires c = (search first_small, search second_small)
+pub accepted-requires : goal.accepted-requires
+accepted-requires c = values _ _ _ _ _ _ _ c.in-Ok.done c.in-Ok.ensures c.type_inv.left c.type_inv.right
 
-pub returns : goal.returns
-returns c = search compare_coded
+pub returns-in-Ok : goal.returns-in-Ok
+returns-in-Ok c = compare_coded _ _ _ _ _ _ _ _ c.in-Ok.ensures _ c.accepted.ensures
+
+pub returns-in-Err : goal.returns-in-Err
+returns-in-Err c = compare_coded _ _ _ _ _ _ _ _ c.in-Err.ensures _ c.code.ensures

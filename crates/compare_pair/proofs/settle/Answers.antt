@@ -1,40 +1,27 @@
 -- `compare_pair::settle` meets its contract.
-use native.Mathlib.Omega.{arith}
-use Rattle.compare_pair.proofs.Exits.{bounded, place_small, ahead_ready, ahead_valued, ahead_fits, ahead_goes, left_goes, covered_goes, back_ready, back_valued, back_fits, back_goes, stays_goes}
+use Rattle.compare_pair.proofs.Exits.{ahead_fits, ahead_goes, left_goes, covered_goes, back_fits, back_goes, stays_goes}
 use Rattle.compare_pair.proofs.settle.Goals as goal
 
-pub overflow_mul-place : goal.overflow_mul-place
-overflow_mul-place c = let p = c.requires in omega (arith, place_small p.1 p.0)
-
-pub overflow_add-place : goal.overflow_add-place
-overflow_add-place c = let p = c.requires in omega (arith, place_small p.1 p.0)
-
-pub reason_for-ahead-requires : goal.reason_for-ahead-requires
-reason_for-ahead-requires c = let p = c.requires in (ahead_ready p.1 p.0, bounded p.1 p.0, back_valued p.1 p.0, ahead_valued p.1 p.0)
-
 pub part-requires : goal.part-requires
-part-requires c = let p = c.requires in ahead_fits p.1 p.0 _ c.reason_for-ahead.ensures c.if-ahead-ne0.true
+part-requires c = let p = c.requires in ahead_fits p.1 p.0 _ c.reason_for.ensures _ c.in-Some.is
 
 pub returns-then-both : goal.returns-then-both
-returns-then-both c = let p = c.requires in ahead_goes p.1 p.0 _ c.reason_for-ahead.ensures c.if-both.true _ c.if-ahead-ne0.true c.part.ensures
+returns-then-both c = let p = c.requires in ahead_goes p.1 p.0 _ c.reason_for.ensures _ c.in-Some.is c.if-both.true _ c.part.ensures
 
 pub part_left-requires : goal.part_left-requires
-part_left-requires c = let p = c.requires in ahead_fits p.1 p.0 _ c.reason_for-ahead.ensures c.if-ahead-ne0.true
+part_left-requires c = let p = c.requires in ahead_fits p.1 p.0 _ c.reason_for.ensures _ c.in-Some.is
 
-pub returns-then-ahead-ne0 : goal.returns-then-ahead-ne0
-returns-then-ahead-ne0 c = let p = c.requires in left_goes p.1 p.0 _ c.reason_for-ahead.ensures c.if-both.false _ c.if-ahead-ne0.true c.part_left.ensures
+pub returns-in-Some : goal.returns-in-Some
+returns-in-Some c = let p = c.requires in left_goes p.1 p.0 _ c.reason_for.ensures _ c.in-Some.is c.if-both.false _ c.part_left.ensures
 
 pub returns-then-not-both : goal.returns-then-not-both
-returns-then-not-both c = let p = c.requires in covered_goes p.1 p.0 _ c.reason_for-ahead.ensures c.if-not-both.true c.if-ahead-ne0.false
+returns-then-not-both c = let p = c.requires in covered_goes p.1 p.0 _ c.reason_for.ensures c.in_default.is c.if-not-both.true
 
-pub reason_for-back-requires : goal.reason_for-back-requires
-reason_for-back-requires c = let p = c.requires in (back_ready p.1 p.0, bounded p.1 p.0, ahead_valued p.1 p.0, back_valued p.1 p.0)
+pub part-requires-in-Some-reason_for : goal.part-requires-in-Some-reason_for
+part-requires-in-Some-reason_for c = let p = c.requires in back_fits p.1 p.0 _ c.reason_for.ensures c.in_default.is _ c.reason_for-2.ensures _ c.in-Some-reason_for.is
 
-pub part-requires-then-back-ne0 : goal.part-requires-then-back-ne0
-part-requires-then-back-ne0 c = let p = c.requires in back_fits p.1 p.0 _ c.reason_for-ahead.ensures c.if-ahead-ne0.false _ c.reason_for-back.ensures c.if-back-ne0.true
+pub returns-in-Some-reason_for : goal.returns-in-Some-reason_for
+returns-in-Some-reason_for c = let p = c.requires in back_goes p.1 p.0 _ c.reason_for.ensures c.in_default.is _ c.reason_for-2.ensures _ c.in-Some-reason_for.is c.if-not-both.false _ c.part-in-Some-reason_for.ensures
 
-pub returns-then-back-ne0 : goal.returns-then-back-ne0
-returns-then-back-ne0 c = let p = c.requires in back_goes p.1 p.0 _ c.reason_for-ahead.ensures c.if-ahead-ne0.false _ c.reason_for-back.ensures c.if-not-both.false _ c.if-back-ne0.true c.part-then-back-ne0.ensures
-
-pub returns : goal.returns
-returns c = let p = c.requires in stays_goes p.1 p.0 _ c.reason_for-ahead.ensures c.if-ahead-ne0.false _ c.reason_for-back.ensures c.if-back-ne0.false
+pub returns-in-None : goal.returns-in-None
+returns-in-None c = let p = c.requires in stays_goes p.1 p.0 _ c.reason_for.ensures c.in_default.is _ c.reason_for-2.ensures c.in-None.is

@@ -2,21 +2,12 @@
 use mathlib.Core.Path.{refl}
 use native.Mathlib.Omega.{arith}
 use Rattle.compare_pair.proofs.Laws.{stands_unknowing, goes_knowing}
-use Rattle.compare_round.proofs.Exits.{row_begun, row_stands, row_done, row_small, width_small, place_small, inside, inside_next, undecided, next_stays, next_parted, row_next, goes_to}
+use Rattle.compare_round.proofs.Exits.{row_begun, row_stands, row_done, row_small, width_small, inside, inside_next, undecided, next_stays, next_parted, row_next, goes_to}
 use Rattle.compare_round.proofs.settle_row.Goals.{then-still+then-not-stays, then-still+else-not-stays, else-still}
 use Rattle.compare_round.proofs.settle_row.Goals as goal
 
 pub loop-column-init : goal.loop-column-init
 loop-column-init c = search row_begun
-
-pub overflow_mul-place : goal.overflow_mul-place
-overflow_mul-place c = omega (arith, place_small c.loop-column.invariant c.loop-column-test.true)
-
-pub overflow_add-place : goal.overflow_add-place
-overflow_add-place c = omega (arith, place_small c.loop-column.invariant c.loop-column-test.true)
-
-pub offset_bounds-map-place : goal.offset_bounds-map-place
-offset_bounds-map-place c = omega (arith, place_small c.loop-column.invariant c.loop-column-test.true)
 
 pub bounds-map-place : goal.bounds-map-place
 bounds-map-place c = inside c.loop-column.invariant c.loop-column-test.true
@@ -25,13 +16,7 @@ pub stays-requires : goal.stays-requires
 stays-requires c =
     let inv = c.loop-column.invariant in
     let h = c.loop-column-test.true in
-    (inside inv h, row_small inv, omega (arith, width_small inv, h))
-
-pub overflow_cast-left : goal.overflow_cast-left
-overflow_cast-left c = omega (arith, row_small c.loop-column.invariant)
-
-pub overflow_cast-right : goal.overflow_cast-right
-overflow_cast-right c = omega (arith, width_small c.loop-column.invariant, c.loop-column-test.true)
+    (inside inv h, row_small inv, omega (arith, width_small inv, h), inv.shares.before)
 
 pub settle-p-requires : goal.settle-p-requires
 settle-p-requires c =
@@ -49,12 +34,6 @@ twin_of-twin-requires c =
       | then-still+else-not-stays w ↦ rw w.map-is u
       | else-still w ↦ rw w.map-is u
     ]
-
-pub overflow_step-column : goal.overflow_step-column
-overflow_step-column c = omega (arith, width_small c.loop-column.invariant, c.loop-column-test.true)
-
-pub loop-column-smaller : goal.loop-column-smaller
-loop-column-smaller c = omega (arith, c.loop-column-test.true)
 
 pub loop-column-preserved : goal.loop-column-preserved
 loop-column-preserved c =

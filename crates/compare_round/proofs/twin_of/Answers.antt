@@ -2,8 +2,8 @@
 use Rattle.compare_round.proofs.Twins.{twin_known, twin_found, twin_none}
 use Rattle.compare_round.proofs.twin_of.Goals as goal
 
-pub returns-then-twin-i : goal.returns-then-twin-i
-returns-then-twin-i c = search twin_known
+pub returns-then-is_some : goal.returns-then-is_some
+returns-then-is_some c = search twin_known
 
 pub returns-then-map-i-eq0 : goal.returns-then-map-i-eq0
 returns-then-map-i-eq0 c = search twin_found

@@ -1,21 +1,15 @@
--- `evaluate::end_rows` meets its contract. The invariant: the rows are those of the steps from `left` on.
-use native.Mathlib.Omega.{arith}
-use borrow.Author.Rules.{rules}
-use Rattle.sheet.proofs.KnownLaws.{has-step}
+-- `evaluate::end_rows` meets its contract. The invariant: the rows are those of the steps from number i on.
 use Rattle.evaluate.proofs.Laws.{rows_start, rows_next, rows_none, rows_end}
 use Rattle.evaluate.proofs.end_rows.Goals as goal
 
-pub loop-left-init : goal.loop-left-init
-loop-left-init c = (search rows_start, search rules, search rules, search rules, search rules)
-
-pub label-label-requires : goal.label-label-requires
-label-label-requires c = search (has-step, rules)
+pub loop-i-init : goal.loop-i-init
+loop-i-init c = search rows_start
 
 pub returns-then-not-gather : goal.returns-then-not-gather
 returns-then-not-gather c = search rows_none
 
-pub loop-left-preserved : goal.loop-left-preserved
-loop-left-preserved c = (search rows_next, omega arith, search rules, search rules, search rules)
+pub loop-i-preserved : goal.loop-i-preserved
+loop-i-preserved c = search rows_next
 
 pub returns : goal.returns
 returns c = search rows_end

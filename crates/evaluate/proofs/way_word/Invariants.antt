@@ -1,16 +1,10 @@
 use mathlib.Core.Path.{◌≡◌}
-use Prim.Native.Nat.{◌≤◌, ◌<◌, ◌^◌}
-use lib.ListN.{length, drop}
+use Prim.Native.Nat.{◌<◌, ◌^◌}
+use lib.ListN.{drop}
 use Rattle.sheet.specs.Reading.{steps_of}
-use Rattle.edges.specs.Edges.{edges, Held}
-use Rattle.edges.specs.Groups.{total, Grouped}
-use Rattle.sheet.specs.Known.{WayKnown}
+use Rattle.edges.specs.LinkTables.{backward}
 use Rattle.evaluate.specs.Evaluation.{way_word}
 use Rattle.evaluate.proofs.way_word.Given as goal
 
-abbrev pub invariant-loop-left : goal.invariant-loop-left
-invariant-loop-left l = (l.out ≡ way_word l.every (edges (total l.starts) l.to l.labels l.from) l.known (drop l.left (steps_of l.sheet l.way))) × (l.left ≤ l.way.count) × (l.out < 2 ^ 64)
-    × Held (total l.starts) l.from l.to × Grouped l.starts l.labels × WayKnown l.sheet l.way (length l.known)
-
-abbrev pub decreases-loop-left : goal.decreases-loop-left
-decreases-loop-left l = l.left
+abbrev pub invariant-loop-i : goal.invariant-loop-i
+invariant-loop-i l = (l.out ≡ way_word l.every (backward l.links) l.known (drop l.i (steps_of l.sheet l.way))) × (l.out < 2 ^ 64)

@@ -2,8 +2,8 @@
 use Rattle.listing_text.proofs.Exits.{bound_absent, bound_there}
 use Rattle.listing_text.proofs.bound_refused.Goals as goal
 
-pub returns-then-input-eq0 : goal.returns-then-input-eq0
-returns-then-input-eq0 c = search bound_absent
+pub returns-then-is_empty : goal.returns-then-is_empty
+returns-then-is_empty c = bound_absent _ _ c.is_empty.ensures c.if-is_empty.true
 
-pub returns : goal.returns
-returns c = search bound_there
+pub returns-else-is_empty : goal.returns-else-is_empty
+returns-else-is_empty c = bound_there _ _ c.is_empty.ensures c.if-is_empty.false

@@ -1,16 +1,10 @@
 -- `listing_text::many_cells` meets its contract.
-use Rattle.book.specs.AcceptedLaws.{book_long}
 use Rattle.listing_text.proofs.Exits.{many_left, many_right}
 use Rattle.listing_text.proofs.many_cells.Goals as goal
 
-pub cells_of-requires : goal.cells_of-requires
-cells_of-requires c = search book_long
+pub returns-then-cells-gt-MOST_CELLS : goal.returns-then-cells-gt-MOST_CELLS
+returns-then-cells-gt-MOST_CELLS c = many_left _ _ _ c.cells.ensures.0 c.if-cells-gt-MOST_CELLS.true
 
-pub cells_of-requires-then-cells_of-le-MOST_CELLS : goal.cells_of-requires-then-cells_of-le-MOST_CELLS
-cells_of-requires-then-cells_of-le-MOST_CELLS c = search book_long
-
-pub returns-then-cells_of-le-MOST_CELLS : goal.returns-then-cells_of-le-MOST_CELLS
-returns-then-cells_of-le-MOST_CELLS c = search many_right
-
-pub returns : goal.returns
-returns c = search many_left
+pub returns-else-cells-gt-MOST_CELLS : goal.returns-else-cells-gt-MOST_CELLS
+returns-else-cells-gt-MOST_CELLS c =
+    many_right _ _ _ c.cells.ensures.0 _ c.if-cells-gt-MOST_CELLS.false c.cells-else-cells-gt-MOST_CELLS.ensures.0

@@ -7,7 +7,8 @@ pub returns-then-input-gt-MOST_INPUT : goal.returns-then-input-gt-MOST_INPUT
 returns-then-input-gt-MOST_INPUT c = search input_large
 
 pub returns-then-bound_refused : goal.returns-then-bound_refused
-returns-then-bound_refused c = search input_refused
+returns-then-bound_refused c =
+    input_refused _ c.if-input-gt-MOST_INPUT.false _ c.bound_refused.ensures c.if-bound_refused.true (rw c.number.ensures at c.put_ending.ensures)
 
 pub slice_bounds-put_split-count : goal.slice_bounds-put_split-count
 slice_bounds-put_split-count c = search input_some

@@ -1,6 +1,6 @@
 -- The writers of questions and ways call one another. The entry's number falls from a question to its parts and tests, and a writer's place on the way
 -- there is added to eight times the number; the steps left of a way fall in the loop, which keeps what it has written.
-use Rattle.std.proofs.Common.{◌≡◌, ◌+◌, ◌*◌, ◌≤◌, length}
+use Rattle.std.proofs.Common.{◌+◌, ◌-◌, ◌*◌, ◌≤◌, length}
 use Rattle.question_text.specs.Writing.{WayOf, steps_text_of}
 use Rattle.question_text.proofs.Ways.{run, Going}
 use Rattle.question_text.proofs.+writers.Given as goal
@@ -35,8 +35,13 @@ decreases-put_two l = l.k * 8 + 5
 abbrev pub decreases-put_way : goal.decreases-put_way
 decreases-put_way l = l.k * 8 + 3
 
-abbrev pub invariant-put_steps-loop-left : goal.invariant-put_steps-loop-left
-invariant-put_steps-loop-left l = Going l.sheet l.initial.room l.at (steps_text_of l.sheet (run l.version l.initial.from l.initial.left)) l.room l.next (run l.version l.from l.left) × WayOf l.sheet l.starts l.k (run l.version l.from l.left) × (length l.room ≡ length l.initial.room) × (l.at + length (steps_text_of l.sheet (run l.version l.initial.from l.initial.left)) ≤ length l.initial.room)
-
-abbrev pub decreases-put_steps-loop-left : goal.decreases-put_steps-loop-left
-decreases-put_steps-loop-left l = l.left
+abbrev pub invariant-put_steps-loop : goal.invariant-put_steps-loop
+invariant-put_steps-loop l =
+    let sheet = l.source.sheet.now in
+    let text = steps_text_of sheet (run l.version l.initial.from l.fn.steps.count) in
+    let rest = run l.version l.from (l.fn.steps.count - l.counter) in
+    record {
+      going : Going sheet l.initial.room l.at text l.room l.next rest;
+      way : WayOf sheet l.source.starts.now l.k rest;
+      fits : l.at + length text ≤ length l.initial.room;
+    }

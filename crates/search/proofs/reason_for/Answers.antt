@@ -1,12 +1,19 @@
+-- `search::reason_for` meets its contract.
 use mathlib.Core.Path.{refl}
-use Rattle.search.proofs.Answers.{why_link, why_two}
+use native.Mathlib.Omega.{arith}
+use Rattle.search.proofs.Answers.{why_link, why_none, why_two}
 use Rattle.search.proofs.reason_for.Goals as goal
 
-pub returns-then-link-sa : goal.returns-then-link-sa
-returns-then-link-sa c = why_link _ _ _ _ _ _ _ _ c.requires.0.left.opened c.requires.0.cell _ c.one_link-link.ensures c.if-link-sa.true _ refl refl refl
+pub returns-in-Some : goal.returns-in-Some
+returns-in-Some c =
+    why_link _ _ _ _ _ _ _ _ c.args.a.now.ordered.opened c.requires.0 _ c.in-Some.ensures _ refl refl refl
 
-pub returns : goal.returns
-returns c =
-    let start = c.requires in
-    why_two _ _ _ _ _ _ _ _ start.0.left.opened start.0.cell _ c.one_link-link.ensures c.if-link-sa.false
-    start.1 _ c.by_total-r.ensures _ refl refl refl
+pub returns-in_err-pair-in-None : goal.returns-in_err-pair-in-None
+returns-in_err-pair-in-None c =
+    rw c.from_residual.ensures
+    (why_none _ _ _ _ _ _ _ _ c.args.a.now.ordered.opened c.requires.0 c.in-None.ensures c.requires.2 _ c.in_err-pair-in-None.ensures refl)
+
+pub returns-in_ok-pair-in-None : goal.returns-in_ok-pair-in-None
+returns-in_ok-pair-in-None c =
+    why_two _ _ _ _ _ _ _ _ c.args.a.now.ordered.opened c.requires.0 c.in-None.ensures c.requires.2 _ c.in_ok-pair-in-None.ensures
+    (λ z. omega (arith, c.in_ok-pair-in-None.pair.compares)) _ refl refl refl

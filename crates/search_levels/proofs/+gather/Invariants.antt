@@ -1,5 +1,5 @@
 use Prim.Native.Nat.{◌-◌, ◌≤◌}
-use Rattle.search_links.specs.Hops.{view_of, Ordered}
+use Rattle.search_links.specs.Sides.{view}
 use Rattle.search_tables.specs.Tips.{TableRoom}
 use Rattle.search_steps.specs.Tables.{last_place}
 use Rattle.search_levels.proofs.Gathering.{Gathering}
@@ -9,7 +9,7 @@ abbrev pub decreases-gather : goal.decreases-gather
 decreases-gather l = l.more
 
 abbrev pub invariant-loop-at : goal.invariant-loop-at
-invariant-loop-at l = Ordered (view_of l.sa l.la l.ta) × Ordered (view_of l.sb l.lb l.tb) × (l.m ≤ 64) × (2 ≤ l.more) × (l.at ≤ last_place) × TableRoom l.ends l.sets 0 × Gathering (view_of l.sa l.la l.ta) (view_of l.sb l.lb l.tb) l.z l.ea l.eb l.wide l.l l.r l.first l.m l.initial.lefts l.initial.rights l.base l.n l.more l.at l.lefts l.rights l.count
+invariant-loop-at l = (2 ≤ l.more) × (l.at ≤ last_place) × TableRoom l.next.lefts l.next.rights 0 × Gathering (view l.a) (view l.b) l.z l.a.ends l.b.ends l.wide l.from.lefts l.from.rights l.first l.m l.initial.table.lefts l.initial.table.rights l.base l.n l.more l.at l.table.lefts l.table.rights l.count
 
 abbrev pub decreases-loop-at : goal.decreases-loop-at
 decreases-loop-at l = last_place - l.at

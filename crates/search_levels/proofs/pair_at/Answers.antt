@@ -5,11 +5,6 @@ use Rattle.search_levels.proofs.Deepening.{end_few}
 use Rattle.search_levels.proofs.Deciding.{level_stands, level_ahead, level_none}
 use Rattle.search_levels.proofs.pair_at.Goals as goal
 
-pub two_tips-requires : goal.two_tips-requires
-two_tips-requires c =
-    let start = c.requires in
-    (end_few _ _ _ start.3 _ (omega (arith, start.1)) _ refl, end_few _ _ _ start.3 _ c.if-t-j.false _ refl, start.0.own, start.0.other)
-
 pub first_pair-requires : goal.first_pair-requires
 first_pair-requires c =
     let start = c.requires in
@@ -18,4 +13,4 @@ first_pair-requires c =
 pub returns : goal.returns
 returns c =
     let start = c.requires in
-    level_none _ _ _ _ _ _ _ _ _ _ start.0.left.opened start.0.cell start.0.own start.0.other start.1 start.2 start.5 _ _ _ start.4 c.if-t-j.false _ _ refl refl _ c.two_tips.ensures c.if-two_tips.false _ c.no_pair.ensures
+    level_none _ _ _ _ _ _ _ _ _ _ start.0.left.opened start.0.cell start.0.own start.0.other start.1 start.2 start.5 _ _ _ start.4 c.if-t-j.false _ _ refl refl _ c.two_tips.ensures c.if-two_tips.false _ refl

@@ -5,5 +5,5 @@ use Rattle.search_pairs.proofs.fails.Goals as goal
 pub returns-then-has : goal.returns-then-has
 returns-then-has c = search fails_where
 
-pub returns : goal.returns
-returns c = search fails_not
+pub returns-else-has : goal.returns-else-has
+returns-else-has c = rw c.if-has.false (search fails_not)

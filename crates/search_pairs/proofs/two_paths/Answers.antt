@@ -1,23 +1,14 @@
 -- `search_pairs::two_paths` meets its contract.
 use native.Mathlib.Omega.{arith}
-use mathlib.Core.Bool.{false≢true}
 use mathlib.Core.Path.{refl}
 use lib.ListN.{replicate}
 use Rattle.search_pairs.proofs.Loops.{ahead_at, one_stands, sought_none}
 use Rattle.search_pairs.proofs.two_paths.Goals as goal
-
-pub leads_on-requires : goal.leads_on-requires
-leads_on-requires c =
-    let start = c.requires in
-    (record { left = start.left; right = start.right; own = start.own; other = start.other; firsts = omega arith; seconds = omega arith }, start.cell, start.first, start.second, (λ e. absurd (false≢true e)))
 
 pub first_pair-requires : goal.first_pair-requires
 first_pair-requires c =
     let start = c.requires in
     (start, omega arith, start.second, ahead_at _ _ _ _ _ _ _ _ _ _ _ _ _ c.only-partner.ensures (c.leads_on.ensures.some c.if-leads_on.true), one_stands _ _ _ _ _ (replicate 64 0) (replicate 64 0) _ _ _ _ c.only.ensures c.only-partner.ensures start.cell refl refl _ _)
 
-pub returns-then-leads_on : goal.returns-then-leads_on
-returns-then-leads_on c = c.first_pair.ensures
-
 pub returns : goal.returns
-returns c = sought_none _ _ _ _ _ _ _ _ _ _ _ _ _ (one_stands _ _ _ _ _ (replicate 64 0) (replicate 64 0) _ _ _ _ c.only.ensures c.only-partner.ensures c.requires.cell refl refl _ _) _ c.only-partner.ensures _ c.if-leads_on.false c.leads_on.ensures _ c.no_pair.ensures
+returns c = sought_none _ _ _ _ _ _ _ _ _ _ _ _ _ (one_stands _ _ _ _ _ (replicate 64 0) (replicate 64 0) _ _ _ _ c.only.ensures c.only-partner.ensures c.requires.cell refl refl _ _) _ c.only-partner.ensures _ c.if-leads_on.false c.leads_on.ensures _ refl

@@ -3,7 +3,7 @@ use Rattle.search_pairs.proofs.Clashes.{unmet_same, unmet_differ}
 use Rattle.search_pairs.proofs.unmatched.Goals as goal
 
 pub returns-then-misses : goal.returns-then-misses
-returns-then-misses c = search unmet_same
+returns-then-misses c = rw c.if-misses.true (search unmet_same)
 
-pub returns : goal.returns
-returns c = search unmet_differ
+pub returns-else-misses : goal.returns-else-misses
+returns-else-misses c = search unmet_differ

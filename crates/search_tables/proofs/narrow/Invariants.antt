@@ -1,9 +1,9 @@
-use Prim.Native.Nat.{◌-◌, ◌≤◌}
+use mathlib.Core.Path.{◌≡◌}
 use Rattle.search_tables.specs.Tips.{Narrowed}
 use Rattle.search_tables.proofs.narrow.Given as goal
 
 abbrev pub invariant-loop-e : goal.invariant-loop-e
-invariant-loop-e l = (l.base ≤ l.e) × (l.e ≤ l.n) × Narrowed l.initial.lefts l.rights l.base l.n l.cells l.w l.lefts
-
-abbrev pub decreases-loop-e : goal.decreases-loop-e
-decreases-loop-e l = l.n - l.e
+invariant-loop-e l = record {
+  narrowed : Narrowed l.initial.table.lefts l.initial.table.rights l.base l.n l.cells l.w l.table.lefts;
+  rights : l.table.rights ≡ l.initial.table.rights;
+}

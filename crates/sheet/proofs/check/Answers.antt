@@ -1,16 +1,24 @@
--- `sheet::check` meets its contract: the answer of the refusal, and the values of an accepted header.
+-- `sheet::check` meets its contract: the header's refusal, else the entries', else the values of the header.
+use mathlib.Core.Path.{◌∙◌}
 use borrow.Author.Rules.{rules}
-use Rattle.sheet.proofs.Laws.{answer_refused, answer_accepted, sheet_long}
+use Rattle.outcome.specs.RefusalLaws.{number-some}
+use Rattle.sheet.proofs.Laws.{passed_err, refusal_head, refusal_entries, head_long, answer_refused, answer_accepted}
 use Rattle.sheet.proofs.check.Goals as goal
 
-pub returns-then-r-ne0 : goal.returns-then-r-ne0
-returns-then-r-ne0 c = search answer_refused
-
-pub get2-entries-requires : goal.get2-entries-requires
-get2-entries-requires c = search (rules, sheet_long)
+pub returns-in_err-check_head : goal.returns-in_err-check_head
+returns-in_err-check_head c = passed_err _ _ c.from_residual.ensures.1 ∙ search (answer_refused, refusal_head, number-some, c.in_err-check_head.ensures)
 
 pub bounds-bytes-5 : goal.bounds-bytes-5
-bounds-bytes-5 c = search (rules, sheet_long)
+bounds-bytes-5 c = search (rules, head_long, c.in_ok-check_head.ensures)
+
+pub get-entries-requires : goal.get-entries-requires
+get-entries-requires c = search (rules, head_long, c.in_ok-check_head.ensures)
+
+pub check_entries-requires : goal.check_entries-requires
+check_entries-requires c = search (rules, head_long, c.in_ok-check_head.ensures)
+
+pub returns-in_err-check_entries : goal.returns-in_err-check_entries
+returns-in_err-check_entries c = passed_err _ _ c.from_residual-in_err-check_entries.ensures.1 ∙ search (answer_refused, refusal_entries, c.in_ok-check_head.ensures, c.in_err-check_entries.ensures)
 
 pub returns : goal.returns
-returns c = search answer_accepted
+returns c = search (answer_accepted, refusal_entries, c.in_ok-check_head.ensures, c.in_ok-check_entries.ensures)

@@ -6,8 +6,8 @@ use Rattle.sheet.proofs.first_way.Goals as goal
 pub bounds-s-at : goal.bounds-s-at
 bounds-s-at c = search first_inside
 
-pub returns-then-s-at-eq-KIND_WAY : goal.returns-then-s-at-eq-KIND_WAY
-returns-then-s-at-eq-KIND_WAY c = search first_of_way
+pub returns-in-Way : goal.returns-in-Way
+returns-in-Way c = search (first_of_way, c.in-Way.ensures)
 
-pub returns : goal.returns
-returns c = search first_of_comparison
+pub returns-in_default : goal.returns-in_default
+returns-in_default c = search first_of_comparison

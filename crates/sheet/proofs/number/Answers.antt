@@ -10,8 +10,8 @@ overflow_mul-i c = omega (arith, number_inside c.requires)
 pub overflow_add-at-2 : goal.overflow_add-at-2
 overflow_add-at-2 c = omega (arith, number_inside c.requires)
 
-pub get2-requires : goal.get2-requires
-get2-requires c = search number_inside
+pub get-requires : goal.get-requires
+get-requires c = (omega arith, search number_inside)
 
 pub returns : goal.returns
 returns c = search number_returned

@@ -1,19 +1,11 @@
 -- `text::digits` meets its contract.
 use native.Mathlib.Omega.{arith}
-use Rattle.text.proofs.Exits.{digits_one, digits_two, digits_three, digits_four, digits_five}
+use Rattle.text.specs.Laws.{length-numeral, decimal_few}
+use Rattle.text.proofs.Exits.{digits_counted}
 use Rattle.text.proofs.digits.Goals as goal
 
-pub returns-then-n-lt10 : goal.returns-then-n-lt10
-returns-then-n-lt10 c = (search digits_one, omega arith)
-
-pub returns-then-n-lt100 : goal.returns-then-n-lt100
-returns-then-n-lt100 c = (search digits_two, omega arith)
-
-pub returns-then-n-lt1000 : goal.returns-then-n-lt1000
-returns-then-n-lt1000 c = (search digits_three, omega arith)
-
-pub returns-then-n-lt10000 : goal.returns-then-n-lt10000
-returns-then-n-lt10000 c = (search digits_four, omega arith)
-
 pub returns : goal.returns
-returns c = (search digits_five, omega arith)
+returns c =
+    let n = c.args.n in
+    let e = digits_counted n c.max.result c.ilog10.result c.max.ensures c.ilog10.ensures.power_le c.ilog10.ensures.next_power_gt in
+    (e, omega (arith, decimal_few n (omega arith)), λ h. omega (arith, length-numeral 4 n n (omega arith)))

@@ -1,14 +1,10 @@
 -- `words::lowest` meets its contract.
 use mathlib.Core.Path.{◌≡◌}
 use Prim.Native.Nat.{◌<◌}
-use native.Mathlib.Omega.{arith}
-use lib.Count.{count_trailing_zeros, trailing_le}
+use lib.Count.{count_trailing_zeros}
 use Rattle.words.specs.Words.{bit, first}
 use Rattle.words.specs.Laws.{trailing_first, first-lt, first_there}
 use Rattle.words.proofs.lowest.Goals as goal
-
-pub overflow_cast-result : goal.overflow_cast-result
-overflow_cast-result c = omega (arith, trailing_le 64 c.args.w)
 
 pub returns : goal.returns
 returns c =

@@ -1,7 +1,0 @@
-use Rattle.search_levels.proofs.exact_after.Goals as goal
-
-pub returns-then-wide : goal.returns-then-wide
-returns-then-wide c = rw c.if-wide.true
-
-pub returns : goal.returns
-returns c = rw c.if-wide.false

@@ -1,6 +1,0 @@
--- `sheet::test_refusal` meets its contract: the test of one step is the number behind its label.
-use Rattle.sheet.proofs.Laws.{one_test}
-use Rattle.sheet.proofs.test_refusal.Goals as goal
-
-pub returns : goal.returns
-returns c = search one_test

@@ -1,5 +1,0 @@
--- A number is written behind the number without its last two digits, which is smaller.
-use Rattle.text.proofs.+put_number.Given as goal
-
-abbrev pub decreases-put_number : goal.decreases-put_number
-decreases-put_number l = l.n
