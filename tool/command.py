@@ -54,7 +54,10 @@ VALUES = {
     "page": ["--bound", "--hide-old", "--hide-new", "-o"],
     "show": ["--hide"],
 }
+SAYING = []  # something, once the answer is being written
 ENDED = []  # the status, once all is said
+WORK = []  # the thread that does what is asked
+PATIENCE = 1  # the seconds that an answer has to be written to its end when the program is stopped
 STACKS = (512 << 20, 64 << 20, 8 << 20)
 DEEPEST = 200000
 
@@ -178,6 +181,7 @@ COMMANDS = {"compare": compare, "page": page, "check": check, "show": show, "exp
 
 def write(text):
     """Writes the answer; Trouble if that cannot be."""
+    SAYING.append(True)
     try:
         if sys.stdout is None:
             raise OSError("standard output is closed")
@@ -241,6 +245,7 @@ def main():
             threading.stack_size(size)
             work = threading.Thread(target=lambda: status.append(guarded(sys.argv[1:])), daemon=True)
             work.start()
+            WORK.append(work)
             break
         except (ValueError, RuntimeError):
             continue
@@ -251,7 +256,10 @@ def main():
 
 
 def stopped(*_):
-    """Ends at once, and leaves no half-written file."""
+    """Ends at once, and leaves no half-written file. An answer that is being written is written to its end first, and its status given."""
+    if SAYING:
+        for work in WORK:
+            work.join(PATIENCE)
     if ENDED:
         os._exit(ENDED[-1])
     output.clear()

@@ -2,7 +2,7 @@
 use mathlib.Core.Bool.{Bool}
 use mathlib.Core.List.{List}
 use mathlib.Core.Path.{◌≡◌, refl, sym, ap, ap₂, ◌∙◌}
-use Prim.Native.Nat.{ℕ, ◌*◌, ◌≤◌}
+use Prim.Native.Nat.{ℕ, ◌+◌, ◌*◌, ◌≤◌}
 use native.Mathlib.Nat.{mul-le-mul_right}
 use native.Mathlib.Omega.{arith}
 use borrow.Author.Tests.{eq-eqb, ne_eqb}
@@ -18,7 +18,9 @@ use Rattle.book.specs.declared.Hidden.{Hidden}
 use Rattle.book.specs.Book.{version_of, cells_of, book_refusal}
 use Rattle.book.specs.BookGraph.{showing}
 use Rattle.book.specs.AcceptedLaws.{book_sizes}
+use Rattle.edges.specs.Edges.{empty_rows}
 use Rattle.edges.specs.BookEdges.{Loaded, BothRows}
+use Rattle.edges.specs.Laws.{empty_at}
 use Rattle.search_links.specs.Hops.{view_of, Starts, Ordered}
 use Rattle.search_links.specs.declared.side.Side.{Side}
 use Rattle.search_links.specs.BookHopLaws.{seen_ordered}
@@ -39,7 +41,19 @@ use Rattle.compare_lists.specs.BookSetting.{sheet_version, setting_of}
 use Rattle.compare_lists.specs.Laws.{books_comparable}
 use Rattle.compare_lists.specs.Comparing.{IsRead, Lent, Started, Fills}
 
--- ---- a book, read
+-- ---- a book, not read and read
+
+-- where no links begin there are none
+pub unlinked : (ls ts : List ℕ) → Ordered (view_of (replicate 65 0) ls ts)
+unfolding empty_rows
+unlinked ls ts =
+    record {
+      opened = record { few = omega (arith, none 64); within = λ x l. omega (arith, none x); low = λ k l. absurd (omega (arith, none 64)) };
+      rising = λ x j k l m n o. absurd (omega (arith, none (x + 1)));
+    }
+  where
+    none : (x : ℕ) → get_or {A = ℕ} (replicate 65 0) x 0 ≡ 0
+    none x = empty_at 65 x
 
 module _ (h : ℕ) (s fs ls ts starts : List ℕ) (count : ℕ) (r : book_refusal s ≡ 0) (d : Loaded h s count fs ls ts) (t : Starts count fs starts) where
   pub read_ordered : Ordered (view_of starts ls ts)

@@ -2,7 +2,7 @@
 // pair.
 #![tactic(auto)]
 
-ghost use Rattle.std.specs.Prelude.{◌≡◌, ◌*◌, ◌≤◌, length};
+ghost use Rattle.std.specs.Prelude.{◌≡◌, ◌*◌, ◌≤◌, length, replicate};
 ghost use Rattle.fields.specs.Fields.{Bytes};
 ghost use Rattle.compare_lists.specs.BookSetting.{sheet_version};
 ghost use Rattle.compare_lists.specs.Comparing.{IsRead, Lent, Started, Fills};
@@ -10,24 +10,36 @@ ghost use Rattle.compare_lists.specs.Comparing.{IsRead, Lent, Started, Fills};
 use book::{Book, Hidden};
 use compare_entries::Pen;
 use compare_pair::Sizes;
+use edges::Rows;
 use search_links::Side;
+
+// A book's lists before it is read: of no links.
+fn blank() -> Side
+    ensures { result.starts ≡ replicate 65 0 }
+{
+    Side {
+        starts: [0; 65],
+        labels: [0; 512],
+        to: [0; 512],
+        ends: [0; 128],
+    }
+}
 
 // Reads a book, seen through a word: the labels of its links and the cells that they lead to, where the links out of each cell begin, and for each cell the
 // cells that pass each comparison with it. (Never inlined: what it works with leaves the stack before the rounds begin.)
 #[inline(never)]
-fn read(book: Book<'_>, hidden: u64) -> Side
-    ensures { IsRead hidden book.entry.bytes.now result }
+fn read(book: Book<'_>, hidden: u64, side: &mut Side)
+    ensures { IsRead hidden book.entry.bytes.now side.new }
 {
-    let links = edges::load(book, hidden);
-    let starts = search_links::starts(links.count, &links.from);
-    let rows = edges::passing(book, hidden);
-    let ends = search_links::paired(&rows.same, &rows.differ);
-    Side {
-        starts,
-        labels: links.labels,
-        to: links.to,
-        ends,
-    }
+    let mut from = [0u8; 512];
+    let count = edges::fill(book, hidden, &mut from, &mut side.labels, &mut side.to);
+    side.starts = search_links::starts(count, &from);
+    let mut rows = Rows {
+        same: [0; 64],
+        differ: [0; 64],
+    };
+    edges::passing(book, hidden, &mut rows);
+    side.ends = search_links::paired(&rows.same, &rows.differ);
 }
 
 // The version of the sheet that a comparison of two books writes. (That their numbers are bytes is said here since the type of a book does not say it.)
@@ -73,8 +85,10 @@ pub fn fill(
     requires { Lent left.bytes.now right.bytes.now bound hidden map.old room.old }
     ensures { Fills both left.entry.bytes.now right.entry.bytes.now bound hidden room.old room.new result map.new }
 {
-    let a = read(left, hidden.left);
-    let b = read(right, hidden.right);
+    let mut a = blank();
+    read(left, hidden.left, &mut a);
+    let mut b = blank();
+    read(right, hidden.right, &mut b);
     let n = left.cells();
     let m = right.cells();
     let version = sheet_version(left.bytes, right.bytes);

@@ -1,5 +1,6 @@
 pub mod Edges
 pub mod Groups
+pub mod GroupLaws
 pub mod LinkTables
 pub mod BookEdges
 pub mod Differing

@@ -2,13 +2,13 @@
 // which know nothing of a book's bytes.
 #![tactic(auto)]
 
-ghost use Rattle.std.specs.Prelude.{◌≡◌, cond, ◌^◌, ◌≤◌, ◌<◌};
+ghost use Rattle.std.specs.Prelude.{[], ◌≡◌, cond, ◌^◌, ◌≤◌, ◌<◌, get_or, length};
 ghost use Rattle.theory.specs.Graph.{same};
 ghost use Rattle.words.specs.Words.{bit};
 ghost use Rattle.book.specs.Book.{as_link};
 ghost use Rattle.book.specs.BookGraph.{clear};
 ghost use Rattle.edges.specs.Edges.{image, Gathered, empty_rows, any_passes};
-ghost use Rattle.edges.specs.Groups.{group_of, GroupWith};
+ghost use Rattle.edges.specs.Groups.{group_of, total, GroupWith};
 ghost use Rattle.edges.specs.LinkTables.{forward, backward};
 ghost use Rattle.edges.specs.BookEdges.{Loaded, recordings, same_in, passing, BothRows};
 ghost use Rattle.edges.specs.Differing.{filled, differ_row, differing};
@@ -16,7 +16,7 @@ ghost use Rattle.edges.specs.Differing.{filled, differ_row, differing};
 pub mod links;
 
 use book::{Book, BookLink, Recording};
-pub use links::{LinkLists, Links};
+pub use links::Links;
 
 // Whether a link between cells that a word has room for touches no hidden cell.
 fn clear(hidden: u64, link: BookLink) -> bool
@@ -32,13 +32,30 @@ fn clear(hidden: u64, link: BookLink) -> bool
     !words::has(hidden, link.to)
 }
 
-// Loads the links of a book that touch no hidden cell, in order.
-pub fn load(book: Book<'_>, hidden: u64) -> LinkLists
-    ensures { Loaded hidden book.entry.bytes.now result.count result.from result.labels result.to }
+// No links: what links are loaded into.
+pub fn no_links() -> Links
+    ensures { forward result ≡ [] }
 {
-    let mut from = [0u8; 512];
-    let mut labels = [0u16; 512];
-    let mut to = [0u8; 512];
+    Links {
+        starts: [0; 66],
+        from: [0; 512],
+        labels: [0; 512],
+        to: [0; 512],
+    }
+}
+
+// Loads the links of a book that touch no hidden cell into three lists, in order: link k of these leads from cell from[k] by labels[k] to cell to[k]. The
+// answer is how many they are.
+pub fn fill(
+    book: Book<'_>,
+    hidden: u64,
+    from: &mut [u8; 512],
+    labels: &mut [u16; 512],
+    to: &mut [u8; 512],
+) -> usize
+    requires { (length from.old ≡ 512) × (length labels.old ≡ 512) × (length to.old ≡ 512) }
+    ensures { Loaded hidden book.entry.bytes.now result from.new labels.new to.new }
+{
     let mut count = 0;
     for k in 0..book.links() {
         let link = book.link(k);
@@ -49,12 +66,23 @@ pub fn load(book: Book<'_>, hidden: u64) -> LinkLists
             count += 1;
         }
     }
-    LinkLists {
-        count,
-        from,
-        labels,
-        to,
-    }
+    count
+}
+
+// Loads the links of a book that touch no hidden cell, in order and not grouped.
+pub fn load(book: Book<'_>, hidden: u64, links: &mut Links)
+    ensures loaded { Loaded hidden book.entry.bytes.now (total links.new.starts) links.new.from links.new.labels links.new.to }
+    ensures loose { get_or links.new.starts 65 0 ≡ 0 }
+{
+    links.starts = [0; 66];
+    let count = fill(
+        book,
+        hidden,
+        &mut links.from,
+        &mut links.labels,
+        &mut links.to,
+    );
+    links.starts[64] = count as u16;
 }
 
 // The set of node j where w has node i, else the empty set.
@@ -219,13 +247,11 @@ pub struct Rows {
     pub differ: [u64; 64],
 }
 
-// The rows of a book. Those of hidden and of silent cells, and those from the number of cells on, are empty.
-pub fn passing(book: Book<'_>, hidden: u64) -> Rows
-    ensures { BothRows hidden book.entry.bytes.now result.same result.differ }
+// Writes the rows of a book into empty ones. Those of hidden and of silent cells, and those from the number of cells on, stay empty.
+pub fn passing(book: Book<'_>, hidden: u64, rows: &mut Rows)
+    requires { (rows.old.same ≡ empty_rows 64) × (rows.old.differ ≡ empty_rows 64) }
+    ensures { BothRows hidden book.entry.bytes.now rows.new.same rows.new.differ }
 {
-    let mut same = [0u64; 64];
-    let mut differ = [0u64; 64];
-    same_rows(book, hidden, &mut same);
-    differ_rows(book.cells(), &same, &mut differ);
-    Rows { same, differ }
+    same_rows(book, hidden, &mut rows.same);
+    differ_rows(book.cells(), &rows.same, &mut rows.differ);
 }

@@ -120,25 +120,30 @@ fn entry_word(every: u64, links: &Links, rows: &Rows, sheet: &[u8], at: usize, k
     requires { EntryKnown sheet.now at (length known.now) }
     ensures { result ≡ entry_word (tables_of every links.now rows.now) known.now (entry_at sheet.now at) }
 {
-    match sheet::kind(sheet, at) {
-        Kind::True => every,
-        Kind::Not => every ^ named_word(sheet, at, 0, known),
-        Kind::And => {
-            let a = named_word(sheet, at, 0, known);
-            let b = named_word(sheet, at, 1, known);
-            words::meet(a, b)
+    let kind = sheet::kind(sheet, at);
+    // By `<`, and a few tests on each side of it: a table of jumps, which a match of all the kinds becomes, costs more than the tests.
+    if kind.number() < Kind::Way.number() {
+        match kind {
+            Kind::True => every,
+            Kind::Not => every ^ named_word(sheet, at, 0, known),
+            _ => {
+                let a = named_word(sheet, at, 0, known);
+                let b = named_word(sheet, at, 1, known);
+                match kind {
+                    Kind::And => words::meet(a, b),
+                    _ => words::union(a, b),
+                }
+            }
         }
-        Kind::Or => {
-            let a = named_word(sheet, at, 0, known);
-            let b = named_word(sheet, at, 1, known);
-            words::union(a, b)
+    } else {
+        match kind {
+            Kind::Way => {
+                let way = sheet::first_way(sheet, at);
+                way_word(every, links, sheet, way, known)
+            }
+            Kind::Same => pair_word(every, links, &rows.same, sheet, at, known),
+            _ => pair_word(every, links, &rows.differ, sheet, at, known),
         }
-        Kind::Way => {
-            let way = sheet::first_way(sheet, at);
-            way_word(every, links, sheet, way, known)
-        }
-        Kind::Same => pair_word(every, links, &rows.same, sheet, at, known),
-        Kind::Differ => pair_word(every, links, &rows.differ, sheet, at, known),
     }
 }
 

@@ -1,6 +1,5 @@
 -- What the functions return that measure a question: a law for each exit and each turn of a loop.
 use mathlib.Core.List.{List, [], ◌∷◌}
-use mathlib.Core.Logic.{◌⊎◌, inl, inr}
 use mathlib.Core.Path.{◌≡◌, refl, sym, ap, ap₂, ◌∙◌}
 use Prim.Native.Nat.{ℕ, ◌+◌, ◌-◌, ◌≤◌, ◌<◌}
 use native.Mathlib.Omega.{arith}
@@ -50,10 +49,25 @@ module _ (s : List ℕ) (w : Steps) (cs ls : List ℕ) where
 
 -- ---- an entry, by its kind
 
--- an and or an or, by its kind's number
-pub two_kinds : (k : Kind) (n : ℕ) → kind_number k ≡ n → (k ≡ says.And) ⊎ (k ≡ says.Or) → (2 ≤ n) × (n < 4)
-two_kinds k n d (inl e) = let f : kind_number k ≡ 2 = ap kind_number e in (omega arith, omega arith)
-two_kinds k n d (inr e) = let f : kind_number k ≡ 3 = ap kind_number e in (omega arith, omega arith)
+-- an and or an or: what is left below a way, by its kind's number
+pub two_kinds : (k : Kind) (n : ℕ) → kind_number k ≡ n → (k ≡ says.True → ⊥) → (k ≡ says.Not → ⊥) → kind_number k < 4 → (2 ≤ n) × (n < 4)
+two_kinds says.True n d f g h = absurd (f refl)
+two_kinds says.Not n d f g h = absurd (g refl)
+two_kinds says.And n d f g h = (omega arith, omega arith)
+two_kinds says.Or n d f g h = (omega arith, omega arith)
+two_kinds says.Way n d f g h = absurd (omega arith)
+two_kinds says.Same n d f g h = absurd (omega arith)
+two_kinds says.Differ n d f g h = absurd (omega arith)
+
+-- a differ: what is left from a way on
+pub differ_kind : (k : Kind) (n : ℕ) → kind_number k ≡ n → (k ≡ says.Way → ⊥) → (k ≡ says.Same → ⊥) → 4 ≤ kind_number k → 6 ≡ n
+differ_kind says.True n d f g h = absurd (omega arith)
+differ_kind says.Not n d f g h = absurd (omega arith)
+differ_kind says.And n d f g h = absurd (omega arith)
+differ_kind says.Or n d f g h = absurd (omega arith)
+differ_kind says.Way n d f g h = absurd (f refl)
+differ_kind says.Same n d f g h = absurd (g refl)
+differ_kind says.Differ n d f g h = d
 
 module _ (cs ls : List ℕ) (e : Entry) where
   pub entry_true : 0 ≡ kind_of e → record { chain = 0; length = 3 } ≡ entry_measure cs ls e

@@ -138,20 +138,27 @@ impl Known {
         requires { EntryKnown sheet.now at (length self.now.chains) }
         ensures { result ≡ entry_measure self.now.chains self.now.lengths (entry_at sheet.now at) }
     {
-        match sheet::kind(sheet, at) {
-            Kind::True => Measure {
-                chain: 0,
-                length: 3,
-            },
-            Kind::Not => self.named(sheet, at, 0).longer(3),
-            Kind::And | Kind::Or => {
-                let first = self.named(sheet, at, 0);
-                let second = self.named(sheet, at, 1);
-                first.beside(second).longer(3)
+        let kind = sheet::kind(sheet, at);
+        // By `<`, and a few tests on each side of it: a table of jumps, which a match of all the kinds becomes, costs more than the tests.
+        if kind.number() < Kind::Way.number() {
+            match kind {
+                Kind::True => Measure {
+                    chain: 0,
+                    length: 3,
+                },
+                Kind::Not => self.named(sheet, at, 0).longer(3),
+                _ => {
+                    let first = self.named(sheet, at, 0);
+                    let second = self.named(sheet, at, 1);
+                    first.beside(second).longer(3)
+                }
             }
-            Kind::Way => self.way(sheet, sheet::first_way(sheet, at)).longer(2),
-            Kind::Same => self.ways(sheet, at).longer(3),
-            Kind::Differ => self.ways(sheet, at).longer(4),
+        } else {
+            match kind {
+                Kind::Way => self.way(sheet, sheet::first_way(sheet, at)).longer(2),
+                Kind::Same => self.ways(sheet, at).longer(3),
+                _ => self.ways(sheet, at).longer(4),
+            }
         }
     }
 

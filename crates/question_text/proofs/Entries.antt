@@ -1,6 +1,5 @@
 -- The text of an entry by its kind, and what is known of an entry that is to be written.
 use mathlib.Core.List.{List, [], ◌∷◌, ◌++◌}
-use mathlib.Core.Logic.{◌⊎◌, inl, inr}
 use mathlib.Core.Path.{◌≡◌, refl, ap}
 use Prim.Native.Nat.{ℕ, ◌≤◌, ◌<◌}
 use native.Mathlib.Omega.{arith}
@@ -77,9 +76,14 @@ module _ (qs : List NodeExpr) where
   text_ways (comparison differ s s') h = refl
 
 -- ---- the kinds of a same and a differ
-pub comparison_kinds : (k : Kind) → (k ≡ says.Same) ⊎ (k ≡ says.Differ) → 5 ≤ kind_number k
-comparison_kinds k (inl e) = let f : kind_number k ≡ 5 = ap kind_number e in omega arith
-comparison_kinds k (inr e) = let f : kind_number k ≡ 6 = ap kind_number e in omega arith
+pub comparison_kinds : (k : Kind) → (k ≡ says.Way → ⊥) → 4 ≤ kind_number k → 5 ≤ kind_number k
+comparison_kinds says.True f h = absurd (omega arith)
+comparison_kinds says.Not f h = absurd (omega arith)
+comparison_kinds says.And f h = absurd (omega arith)
+comparison_kinds says.Or f h = absurd (omega arith)
+comparison_kinds says.Way f h = absurd (f refl)
+comparison_kinds says.Same f h = omega arith
+comparison_kinds says.Differ f h = omega arith
 
 -- ---- entry k, which starts at `start`
 

@@ -118,15 +118,21 @@ fn put_question(source: &Source<'_>, k: usize, room: &mut [u8], at: usize) -> us
 {
     let start = source.starts[k] as usize;
     let kind = sheet::kind(source.sheet, start);
-    match kind {
-        Kind::True => {
-            let next = put_both(room, at, b'<', b'.');
-            text::put_byte(room, next, b'>')
+    // By `<`, and a few tests on each side of it: a table of jumps, which a match of all the kinds becomes, costs more than the tests.
+    if kind.number() < Kind::Way.number() {
+        match kind {
+            Kind::True => {
+                let next = put_both(room, at, b'<', b'.');
+                text::put_byte(room, next, b'>')
+            }
+            Kind::Not => put_not(source, k, start, room, at),
+            _ => put_two(source, k, start, kind, room, at),
         }
-        Kind::Not => put_not(source, k, start, room, at),
-        Kind::And | Kind::Or => put_two(source, k, start, kind, room, at),
-        Kind::Way => put_exists(source, k, start, room, at),
-        Kind::Same | Kind::Differ => put_comparison(source, k, start, kind, room, at),
+    } else {
+        match kind {
+            Kind::Way => put_exists(source, k, start, room, at),
+            _ => put_comparison(source, k, start, kind, room, at),
+        }
     }
 }
 

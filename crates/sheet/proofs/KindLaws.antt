@@ -1,5 +1,5 @@
 -- Laws of the kinds of an entry and their numbers.
-use Rattle.std.specs.Prelude.{true, false, not, ◌≡◌, refl, ℕ, zero, suc, ◌≤◌}
+use Rattle.std.specs.Prelude.{true, false, not, ◌≡◌, refl, ℕ, zero, suc, ◌≤◌, ◌<◌}
 use Rattle.std.proofs.Common.{sym, ap, ◌∙◌, arith}
 use denote.Enum.Bare.{sameb}
 use Rattle.sheet.specs.Entry.{kind_number}
@@ -62,3 +62,32 @@ kind_none says.Or f = cc
 kind_none says.Way f = cc
 kind_none says.Same f = cc
 kind_none says.Differ f = cc
+
+-- what a test for a way says
+pub kind_way : (k : Kind) → true ≡ sameb the_type k says.Way → kind_number k ≡ 4
+kind_way says.True f = cc
+kind_way says.Not f = cc
+kind_way says.And f = cc
+kind_way says.Or f = cc
+kind_way says.Way f = refl
+kind_way says.Same f = cc
+kind_way says.Differ f = cc
+
+pub kind_past : (k : Kind) → 4 ≤ kind_number k → false ≡ sameb the_type k says.Way → 4 < kind_number k
+kind_past says.True h f = omega arith
+kind_past says.Not h f = omega arith
+kind_past says.And h f = omega arith
+kind_past says.Or h f = omega arith
+kind_past says.Way h f = cc
+kind_past says.Same h f = omega arith
+kind_past says.Differ h f = omega arith
+
+-- a kind that is neither true nor not
+pub kind_two : (k : Kind) → (k ≡ says.True → ⊥) → (k ≡ says.Not → ⊥) → 1 < kind_number k
+kind_two says.True f g = absurd (f refl)
+kind_two says.Not f g = absurd (g refl)
+kind_two says.And f g = omega arith
+kind_two says.Or f g = omega arith
+kind_two says.Way f g = omega arith
+kind_two says.Same f g = omega arith
+kind_two says.Differ f g = omega arith

@@ -2,7 +2,6 @@
 -- known of them, so that `search` finds them in a need's record.
 use mathlib.Core.Bool.{cond, true, false, not}
 use mathlib.Core.List.{List, [], ◌∷◌}
-use mathlib.Core.Logic.{◌⊎◌, ⊎_elim}
 use mathlib.Core.Path.{◌≡◌, refl, sym, ap, ap₂, ◌∙◌}
 use denote.Enum.Bare.{sameb}
 use Prim.Native.Nat.{ℕ, suc, ◌+◌, ◌-◌, ◌*◌, ◌≤◌, ◌<◌}
@@ -31,7 +30,7 @@ use Rattle.sheet.specs.declared.kinds.Kind.{Kind}
 use Rattle.sheet.specs.declared.kinds.Kind.TheVariants as says
 use Rattle.sheet.specs.contracts.kinds.Kind.{the_type}
 use Rattle.sheet.specs.Kind.{Decodes}
-use Rattle.sheet.proofs.KindLaws.{kind_number-most, kind_unlike, kind_other, kind_none}
+use Rattle.sheet.proofs.KindLaws.{kind_number-most, kind_unlike, kind_other, kind_none, kind_two, kind_way, kind_past}
 
 -- ---- a refusal that is passed on
 pub passed_err : {A : Type 0} (r : Result A Refusal) (e : Refusal) → IsErrAnd r (λ x. x ≡ e) → r ≡ Err e
@@ -243,25 +242,24 @@ module _ (v : ℕ) (s : List ℕ) (c n at size : ℕ) where
             simp (body_comparison v s c n 5 at size (omega arith) (omega arith), le-ltb size 2 h, ← dk, ← dj, le-ltb c k (omega arith), le-ltb c j (omega arith), ← dt, eq-eqb size (2 + t) e) dr
 
 -- ---- the body, by its kind
+pub body_by_both : (s : List ℕ) (n : ℕ) (kind : Kind) (at size r : ℕ) → (kind ≡ says.True → ⊥) → (kind ≡ says.Not → ⊥) → kind_number kind < 4
+    → r ≡ body_refusal 0 s 0 n 2 at size → r ≡ body_refusal 0 s 0 n (kind_number kind) at size
+body_by_both s n kind at size r f g h d =
+    d ∙ body_two 0 s 0 n 2 at size (omega arith) (omega arith) ∙ sym (body_two 0 s 0 n (kind_number kind) at size (kind_two kind f g) h)
+
 module _ (v : ℕ) (s : List ℕ) (c n : ℕ) (kind : Kind) (at size r : ℕ) where
-  pub body_by_true : kind ≡ says.True → r ≡ body_refusal 0 s 0 n 0 at size → r ≡ body_refusal v s c n (kind_number kind) at size
-  body_by_true k d = rw k (d ∙ body_plain 0 v s 0 c n 0 at size (omega arith))
+  pub body_by_plain : (m w : ℕ) → m ≡ kind_number kind → w ≡ 4 → m < w → r ≡ body_refusal 0 s 0 n (kind_number kind) at size
+      → r ≡ body_refusal v s c n (kind_number kind) at size
+  body_by_plain m w e f h d = d ∙ body_plain 0 v s 0 c n (kind_number kind) at size (omega arith)
 
-  pub body_by_not : kind ≡ says.Not → r ≡ body_refusal 0 s 0 n 1 at size → r ≡ body_refusal v s c n (kind_number kind) at size
-  body_by_not k d = rw k (d ∙ body_plain 0 v s 0 c n 1 at size (omega arith))
+  pub body_by_way : true ≡ sameb the_type kind says.Way → r ≡ body_refusal v s 0 n 4 at size → r ≡ body_refusal v s c n (kind_number kind) at size
+  body_by_way f d = rw (kind_way kind f) (d ∙ body_way v s 0 n 4 at size refl ∙ sym (body_way v s c n 4 at size refl))
 
-  pub body_by_both : (kind ≡ says.And) ⊎ (kind ≡ says.Or) → r ≡ body_refusal 0 s 0 n 2 at size → r ≡ body_refusal v s c n (kind_number kind) at size
-  body_by_both k d =
-      d ∙ body_two 0 s 0 n 2 at size (omega arith) (omega arith)
-      ∙ ⊎_elim (λ k. rw k (sym (body_two v s c n 2 at size (omega arith) (omega arith)))) (λ k. rw k (sym (body_two v s c n 3 at size (omega arith) (omega arith)))) k
-
-  pub body_by_way : kind ≡ says.Way → r ≡ body_refusal v s 0 n 4 at size → r ≡ body_refusal v s c n (kind_number kind) at size
-  body_by_way k d = rw k (d ∙ body_way v s 0 n 4 at size refl ∙ sym (body_way v s c n 4 at size refl))
-
-  pub body_by_comparison : (kind ≡ says.Same) ⊎ (kind ≡ says.Differ) → r ≡ body_refusal v s c n 5 at size → r ≡ body_refusal v s c n (kind_number kind) at size
-  body_by_comparison k d =
+  pub body_by_comparison : (m w : ℕ) → m ≡ kind_number kind → w ≡ 4 → w ≤ m → false ≡ sameb the_type kind says.Way → r ≡ body_refusal v s c n 5 at size
+      → r ≡ body_refusal v s c n (kind_number kind) at size
+  body_by_comparison m w e f h g d =
       d ∙ body_comparison v s c n 5 at size (omega arith) (omega arith)
-      ∙ ⊎_elim (λ k. rw k (sym (body_comparison v s c n 5 at size (omega arith) (omega arith)))) (λ k. rw k (sym (body_comparison v s c n 6 at size (omega arith) (omega arith)))) k
+      ∙ sym (body_comparison v s c n (kind_number kind) at size (kind_past kind (omega arith) g) (kind_number-most kind))
 
 -- ---- an entry
 pub entry_absent : (v : ℕ) (s : List ℕ) (c n at : ℕ) → length s ≤ at → 9 ≡ entry_refusal v s c n at

@@ -2,6 +2,7 @@ pub mod Entry
 pub mod ExpressionLaws
 pub mod Sheet
 pub mod Kind
+pub mod KindLaws
 pub mod Encoding
 pub mod Passed
 pub mod Reading

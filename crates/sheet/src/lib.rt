@@ -222,6 +222,18 @@ fn check_comparison(s: &[u8], v: u8, c: u8, n: u16, at: usize, size: usize) -> R
     check_tests(s, v, n, at + 2, count)
 }
 
+// Checks the body of an entry without steps: of a true, a not, an and or an or.
+fn check_plain(s: &[u8], n: u16, kind: Kind, at: usize, size: usize) -> Result<(), Refusal>
+    requires { (at + size ≤ length s.now) × (kind_number kind < 4) }
+    ensures { refusal_in result ≡ body_refusal 0 s.now 0 n (kind_number kind) at size }
+{
+    match kind {
+        Kind::True => check_true(size),
+        Kind::Not => check_not(s, n, at, size),
+        _ => check_both(s, n, at, size),
+    }
+}
+
 // Checks the body of entry n.
 fn check_body(
     s: &[u8],
@@ -235,13 +247,14 @@ fn check_body(
     requires { at + size ≤ length s.now }
     ensures { refusal_in result ≡ body_refusal v s.now c n (kind_number kind) at size }
 {
-    match kind {
-        Kind::True => check_true(size),
-        Kind::Not => check_not(s, n, at, size),
-        Kind::And | Kind::Or => check_both(s, n, at, size),
-        Kind::Way => check_way(s, v, n, at, size),
-        Kind::Same | Kind::Differ => check_comparison(s, v, c, n, at, size),
+    // A `<`, and no match of all kinds: that becomes a table of jumps, and a jump through a table costs more than these tests.
+    if kind.number() < Kind::Way.number() {
+        return check_plain(s, n, kind, at, size);
     }
+    if kind == Kind::Way {
+        return check_way(s, v, n, at, size);
+    }
+    check_comparison(s, v, c, n, at, size)
 }
 
 // Checks entry n, which starts at `at`.

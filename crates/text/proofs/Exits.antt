@@ -6,8 +6,9 @@ use Rattle.std.proofs.lemmas.Fmt.{decimal_by_steps}
 use Rattle.std.proofs.lemmas.List.{take-append-drop}
 use Rattle.std.proofs.lemmas.List.Edits.{sets-eq}
 use Rattle.fields.specs.Runs.{PutBytes}
+use Rattle.fields.specs.RunLaws.{put_as, put_after}
 use Rattle.text.specs.Text.{digit, numeral, decimal, most_digits, Wrote}
-use Rattle.text.specs.Laws.{decimal-one, decimal-more, decimal_few, wrote_both, wrote_run}
+use Rattle.text.specs.Laws.{decimal-one, decimal-two, decimal-more, decimal_few, wrote_both, wrote_run}
 
 -- ---- the digits of a number
 
@@ -21,6 +22,24 @@ pub digits_counted : (n m k : ℕ) → m ≡ max n 1 → 10 ^ k ≤ m → m < 10
 unfolding numeral
 digits_counted zero m k e l h = length-decimal_between k 1 (omega arith) (omega arith)
 digits_counted (suc n) m k e l h = length-decimal_between k (suc n) (omega arith) (omega arith)
+
+-- one digit, and two
+pub one_long : (n : ℕ) → n < 10 → length (decimal n) ≡ 1
+one_long n h = ap length (decimal-one n h)
+
+pub two_long : (n : ℕ) → 10 ≤ n → n < 100 → length (decimal n) ≡ 2
+two_long n h l = ap length (decimal-two n h l)
+
+module _ {room exit : List ℕ} {at n next : ℕ} where
+  pub one_put : n < 10 → PutBytes room at ((48 + n) ∷ []) exit next → PutBytes room at (decimal n) exit next
+  one_put h p = put_as (sym (decimal-one n h)) p
+
+  pub two_put : 10 ≤ n → n < 100 → PutBytes room at (digit (n / 10) ∷ digit (n % 10) ∷ []) exit next → PutBytes room at (decimal n) exit next
+  two_put h l p = put_as (sym (decimal-two n h l)) p
+
+pub pair_put : (room mid exit : List ℕ) (at n to next : ℕ) → PutBytes room at ((48 + n / 10) ∷ []) mid to → PutBytes mid to ((48 + n % 10) ∷ []) exit next
+    → PutBytes room at (digit (n / 10) ∷ digit (n % 10) ∷ []) exit next
+pair_put room mid exit at n to next p q = put_after p q
 
 -- the library writes the same digits
 pub as_printed : (n : ℕ) → n < 2 ^ 64 → printed n ≡ decimal n

@@ -1,9 +1,9 @@
 // Text written into lent bytes, one piece behind another.
 #![tactic(auto)]
 
-ghost use Rattle.std.specs.Prelude.{[], ◌∷◌, ◌≡◌, ◌+◌, ◌^◌, ◌≤◌, ◌<◌, length};
+ghost use Rattle.std.specs.Prelude.{[], ◌∷◌, ◌≡◌, ◌+◌, ◌/◌, ◌%◌, ◌^◌, ◌≤◌, ◌<◌, length};
 ghost use Rattle.fields.specs.Runs.{PutBytes};
-ghost use Rattle.text.specs.Text.{decimal, labelled, ending, most_digits, Wrote};
+ghost use Rattle.text.specs.Text.{digit, decimal, labelled, ending, most_digits, Wrote};
 
 // Writes a byte at `at`, and gives the place after it.
 pub fn put_byte(room: &mut [u8], at: usize, byte: u8) -> usize
@@ -21,11 +21,26 @@ pub fn digits(n: u64) -> u64
     n.max(1).ilog10() as u64 + 1
 }
 
-// Writes a number in base ten at `at`, and gives the place after it.
+// Writes the two digits of a number below 100 at `at`, and gives the place after them.
+fn put_two_digits(room: &mut [u8], at: usize, n: u64) -> usize
+    requires { (n < 100) × (at + 2 ≤ length room.old) }
+    ensures { PutBytes room.old at (digit (n / 10) ∷ digit (n % 10) ∷ []) room.new result }
+{
+    let next = put_byte(room, at, 48 + (n / 10) as u8);
+    put_byte(room, next, 48 + (n % 10) as u8)
+}
+
+// Writes a number in base ten at `at`, and gives the place after it. (One of one or two digits, as most labels are, is written without counting them.)
 pub fn put_number(room: &mut [u8], at: usize, n: u64) -> usize
     requires { at + length (decimal n) ≤ length room.old }
     ensures { PutBytes room.old at (decimal n) room.new result }
 {
+    if n < 10 {
+        return put_byte(room, at, 48 + n as u8);
+    }
+    if n < 100 {
+        return put_two_digits(room, at, n);
+    }
     let end = at + digits(n) as usize;
     itoa::write_digits(n, room, end);
     end

@@ -11,6 +11,7 @@ ghost use Rattle.truth.specs.Truth.{first_words, truth_words, parts, Told, IsTru
 ghost use Rattle.truth.specs.SeenCells.{seen_word};
 
 use book::{Book, Hidden, LeftCell, RightCell};
+use edges::Rows;
 use outcome::{Part, Refusal, Refused};
 use sheet::{Question, Sheet};
 
@@ -38,8 +39,13 @@ fn write_words(book: Book<'_>, hidden: u64, sheet: Sheet<'_>, upto: usize, words
     ensures { words.new ≡ first_words book.entry.bytes.now hidden sheet.entry.bytes.now upto words.old }
 {
     let many = many_steps(sheet.bytes, upto);
-    let links = edge_groups::load(book, hidden, many);
-    let rows = edges::passing(book, hidden);
+    let mut links = edges::no_links();
+    edge_groups::load(book, hidden, many, &mut links);
+    let mut rows = Rows {
+        same: [0; 64],
+        differ: [0; 64],
+    };
+    edges::passing(book, hidden, &mut rows);
     let every = seen(book, hidden);
     evaluate::evaluate(every, &links, &rows, sheet, upto, words);
 }

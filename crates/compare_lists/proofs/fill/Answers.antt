@@ -9,7 +9,7 @@ pub begin-pen-requires : goal.begin-pen-requires
 begin-pen-requires c = map-asked c.args.left.accepted c.args.right.accepted c.requires _ c.cells-m.ensures.0
 
 pub refine-requires : goal.refine-requires
-refine-requires c = opened c.args.left.accepted c.args.right.accepted c.requires _ c.sheet_version-version.ensures.version c.cells-m.ensures.0 c.begin-pen.ensures c.sheet_version-version.ensures.bytes c.read-a.ensures c.read-b.ensures c.cells-n.ensures.0
+refine-requires c = opened c.args.left.accepted c.args.right.accepted c.requires _ c.sheet_version-version.ensures.version c.cells-m.ensures.0 c.begin-pen.ensures c.sheet_version-version.ensures.bytes c.read.ensures c.read-2.ensures c.cells-n.ensures.0
 
 pub returns : goal.returns
-returns c = filled c.args.left.accepted c.args.right.accepted c.requires _ c.sheet_version-version.ensures.version c.cells-m.ensures.0 c.begin-pen.ensures c.sheet_version-version.ensures.bytes c.read-a.ensures c.read-b.ensures c.cells-n.ensures.0 c.refine.ensures
+returns c = filled c.args.left.accepted c.args.right.accepted c.requires _ c.sheet_version-version.ensures.version c.cells-m.ensures.0 c.begin-pen.ensures c.sheet_version-version.ensures.bytes c.read.ensures c.read-2.ensures c.cells-n.ensures.0 c.refine.ensures

@@ -87,7 +87,7 @@ put_question-put_not-requires t c =
 pub put_question-put_two-requires : goal.put_question-put_two-requires
 put_question-put_two-requires t c =
     let e = question_at _ _ _ _ c.args.source.now.started c.requires.0 refl in
-    let (l, h) = two_kinds _ _ refl c.in-And.is in
+    let (l, h) = two_kinds _ _ refl c.in_default.not-True c.in_default.not-Not (omega arith) in
     (omega (arith, c.decreases), (e, c.kind-kind.ensures, l, h, c.requires.1))
 
 pub put_question-put_exists-requires : goal.put_question-put_exists-requires
@@ -98,7 +98,7 @@ put_question-put_exists-requires t c =
 pub put_question-put_comparison-requires : goal.put_question-put_comparison-requires
 put_question-put_comparison-requires t c =
     let e = question_at _ _ _ _ c.args.source.now.started c.requires.0 refl in
-    (omega (arith, c.decreases), (e, c.kind-kind.ensures, comparison_kinds _ c.in-Same.is, c.requires.1))
+    (omega (arith, c.decreases), (e, c.kind-kind.ensures, comparison_kinds _ c.in_default-kind.not-Way (omega arith), c.requires.1))
 
 pub put_second-second_way-way-requires : goal.put_second-second_way-way-requires
 put_second-second_way-way-requires t c = let o = entered c.args.source.now.started c.requires.0 in search compared_second
