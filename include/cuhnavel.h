@@ -82,7 +82,7 @@ uint64_t cuhnavel_check_book(const uint8_t *bytes, size_t len);
 uint64_t cuhnavel_check_sheet(const uint8_t *bytes, size_t len);
 
 /* The bytes of stack that cuhnavel_compare and cuhnavel_compare_one_way take at most, whatever they are asked: 25,500 as measured with books of which the
- * ways are many, and 29,400 if the deepest calls of all come together, rounded up to a multiple of 4,096. tests/stack runs them on just so much. */
+ * ways are many, and 26,700 if the deepest calls of all come together, rounded up to a multiple of 4,096. tests/stack runs them on just so much. */
 #define CUHNAVEL_COMPARE_STACK 32768
 
 /* Compare: which cells of two books do the same, and what parts the others. The books may be of different versions. With n the left

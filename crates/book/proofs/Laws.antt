@@ -12,7 +12,8 @@ use borrow.Author.Tests.{lt-ltb, le-ltb, ltb-true, le-leb, lt-leb, leb-true, eq-
 use lib.Dec.{eqb, ltb}
 use Rattle.std.specs.Ordering.{is_lt, is_some_and, nat_cmp, partial_ordering_then}
 use Rattle.std.proofs.Common.{Ordering, Less, Equal, Greater}
-use Rattle.std.specs.Prelude.{Option, Some, Result, Ok, Err}
+use Rattle.std.specs.Prelude.{Option, None, Some, Result, Ok, Err}
+use Rattle.std.proofs.lemmas.Option.{none-some, same_Some}
 use Rattle.outcome.specs.Refused.{number, named, of_part}
 use Rattle.outcome.specs.declared.Refusal.{Refusal}
 use Rattle.outcome.specs.declared.Refused.{Refused}
@@ -31,7 +32,7 @@ use Rattle.theory.specs.Graph.{same, compared, link}
 use Rattle.book.specs.BookGraph.{heard, passes, hides, hides_beyond, seen_recording}
 use Rattle.outcome.specs.Refusals.{first_of}
 use Rattle.outcome.specs.RefusalLaws.{first_none, first_some, judged-err}
-use Rattle.book.specs.Book.{length_of, version_of, most_version, cells_of, links_of, recording_place, recording_at, link_width, link_start, link_place, link_in, link_at, counts_refusal, head_refusal, below, precedes, rises, link_refusal, links_refusal, book_refusal, book_answer, as_link}
+use Rattle.book.specs.Book.{length_of, version_of, most_version, cells_of, links_of, recording_place, recording_at, link_width, link_start, link_place, link_in, link_at, counts_refusal, head_refusal, below, precedes, preceding, rises, link_refusal, links_refusal, book_refusal, book_answer, as_link}
 use Rattle.book.specs.AcceptedLaws.{headed, start_most, link_room, book_sizes, book_long, cell_few, answer_accepted}
 use Rattle.book.specs.OutgoingLaws.{before_is, first-before, first-rises, part-accepted, part_room}
 use Rattle.book.specs.BookLinks.{links_before, links_after, first_link, RangeOut, part_from, links_answer, part_of, links_part}
@@ -174,18 +175,22 @@ module _ (s : List ℕ) (k n : ℕ) (dn : n ≡ cells_of s) (l : BookLink) (dl :
       unfolding link_refusal
       inside t e = simp (e, ← dl, ← dn, lt-leb n l.from f, lt-leb n l.to g)
 
-      pub link-first : k ≡ 0 → 0 ≡ link_refusal s k
+      pub link-first : None ≡ preceding s k → 0 ≡ link_refusal s k
       unfolding rises
-      link-first z = sym (inside true (rw z))
+      link-first z = sym (inside true (go k z))
+        where
+          go : (k : ℕ) → None ≡ preceding s k → rises s k ≡ true
+          go zero z = refl
+          go (suc k) z = absurd (none-some _ z)
 
-      module _ (o : k ≡ 0 → ⊥) (b : BookLink) (db : as_link b ≡ link_at s (k - 1)) (t : Bool) (dt : t ≡ precedes (as_link b) (as_link l)) where
+      module _ (b : BookLink) (db : Some (as_link b) ≡ preceding s k) (t : Bool) (dt : t ≡ precedes (as_link b) (as_link l)) where
         after : rises s k ≡ t
         unfolding rises
-        after = go k o db dl
+        after = go k db dl
           where
-            go : (k : ℕ) → (k ≡ 0 → ⊥) → as_link b ≡ link_at s (k - 1) → as_link l ≡ link_at s k → rises s k ≡ t
-            go zero o p q = absurd (o refl)
-            go (suc k) o p q = let e : suc k - 1 ≡ k = omega arith in rw (← q, dt, p, e)
+            go : (k : ℕ) → Some (as_link b) ≡ preceding s k → as_link l ≡ link_at s k → rises s k ≡ t
+            go zero p q = absurd (none-some _ (sym p))
+            go (suc k) p q = rw (← q, dt, same_Some _ _ p)
 
         pub link_above : So t → 0 ≡ link_refusal s k
         link_above e = sym (inside true (after ∙ e))
@@ -194,6 +199,9 @@ module _ (s : List ℕ) (k n : ℕ) (dn : n ≡ cells_of s) (l : BookLink) (dl :
         link-below e = sym (inside false (after ∙ e))
 
 -- ---- the links, one turn at a time
+pub preceding-next : (s : List ℕ) (k : ℕ) (l : BookLink) → as_link l ≡ link_at s k → Some (as_link l) ≡ preceding s (k + 1)
+preceding-next s k l d = rw (add-one k, d)
+
 module _ (s : List ℕ) (k : ℕ) (i : links_refusal s 0 (links_of s) ≡ links_refusal s k (links_of s - k)) where
   pub links_end : links_of s ≤ k → 0 ≡ links_refusal s 0 (links_of s)
   unfolding links_refusal

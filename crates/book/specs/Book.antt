@@ -1,5 +1,5 @@
 -- A book's format (01, "Book bytes" and "Check a book"; 02, 2026-02: "Book version 2"), over the list of its bytes.
-use Rattle.std.specs.Prelude.{Bool, true, not, cond, ◌&&◌, ◌||◌, List, ℕ, zero, suc, ◌+◌, ◌*◌, eqb, ltb, leb, length, Result, Ok, Err}
+use Rattle.std.specs.Prelude.{Bool, true, not, cond, ◌&&◌, ◌||◌, List, ℕ, zero, suc, ◌+◌, ◌*◌, eqb, ltb, leb, length, Option, None, Some, Result, Ok, Err}
 use Rattle.fields.specs.Fields.{field}
 use Rattle.fields.specs.Label.{label_width}
 use Rattle.outcome.specs.Outcome.{Outcome, accepted}
@@ -79,6 +79,11 @@ below m n rest = ltb m n || (eqb m n && rest)
 -- Link j comes before link k as a triple.
 unfoldable pub precedes : Link → Link → Bool
 precedes j k = below j.from k.from (below j.label k.label (ltb j.to k.to))
+
+-- The link before link k, if there is one.
+abbrev pub preceding : List ℕ → ℕ → Option Link
+preceding s zero = None
+preceding s (suc k) = Some (link_at s k)
 
 -- "Strictly rising as triples": link k is above the link before, if there is one.
 unfoldable pub rises : List ℕ → ℕ → Bool

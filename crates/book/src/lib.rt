@@ -1,11 +1,11 @@
 // Books (01, "Book bytes"): checked once, then read by parts.
 #![tactic(auto)]
 
-ghost use Rattle.std.specs.Prelude.{◌&&◌, ◌≡◌, ◌+◌, ◌-◌, ◌*◌, ◌≤◌, ◌<◌, ltb, length, IfOk};
+ghost use Rattle.std.specs.Prelude.{◌&&◌, ◌≡◌, ◌+◌, ◌-◌, ◌*◌, ◌≤◌, ◌<◌, ltb, length, option_map, IfOk};
 ghost use Rattle.theory.specs.Graph.{same};
 ghost use Rattle.outcome.specs.Outcome.{code};
 ghost use Rattle.outcome.specs.Refused.{refusal_in};
-ghost use Rattle.book.specs.Book.{version_of, cells_of, links_of, recording_place, recording_at, link_width, link_start, link_place, link_at, counts_refusal, head_refusal, link_refusal, links_refusal, book_refusal, book_answer, book_outcome, as_link};
+ghost use Rattle.book.specs.Book.{version_of, cells_of, links_of, recording_place, recording_at, link_width, link_start, link_place, link_at, counts_refusal, head_refusal, preceding, link_refusal, links_refusal, book_refusal, book_answer, book_outcome, as_link};
 ghost use Rattle.book.specs.BookGraph.{heard, passes, hides_beyond, seen_recording};
 ghost use Rattle.book.specs.BookLinks.{links_before, links_after, first_link, RangeOut, part_from, links_answer, links_part, links_outcome};
 
@@ -171,10 +171,11 @@ fn read_link(bytes: &[u8], k: usize) -> BookLink
     BookLink { from, label, to }
 }
 
-// Checks link k.
-fn check_link(bytes: &[u8], k: usize) -> Result<(), Refusal>
-    requires { (head_refusal bytes.now ≡ 0) × (k < links_of bytes.now) }
-    ensures { refusal_in result ≡ link_refusal bytes.now k }
+// Checks link k, which stands behind the link before it where there is one, and gives it.
+fn check_link(bytes: &[u8], k: usize, before: Option<BookLink>) -> Result<BookLink, Refusal>
+    requires { (head_refusal bytes.now ≡ 0) × (k < links_of bytes.now) × (option_map as_link before ≡ preceding bytes.now k) }
+    ensures refusal { refusal_in result ≡ link_refusal bytes.now k }
+    ensures read { IfOk result (λ l. as_link l ≡ link_at bytes.now k) }
 {
     let n = cells_of(bytes);
     let link = read_link(bytes, k);
@@ -184,12 +185,11 @@ fn check_link(bytes: &[u8], k: usize) -> Result<(), Refusal>
     if n <= link.to as usize {
         return Err(Refusal::LinkCell);
     }
-    if k == 0 {
-        return Ok(());
-    }
-    let before = read_link(bytes, k - 1);
+    let Some(before) = before else {
+        return Ok(link);
+    };
     if before < link {
-        return Ok(());
+        return Ok(link);
     }
     Err(Refusal::LinkOrder)
 }
@@ -199,8 +199,9 @@ fn check_links(bytes: &[u8]) -> Result<(), Refusal>
     requires { head_refusal bytes.now ≡ 0 }
     ensures { refusal_in result ≡ links_refusal bytes.now 0 (links_of bytes.now) }
 {
+    let mut before = None;
     for k in 0..links_of(bytes) {
-        check_link(bytes, k)?;
+        before = Some(check_link(bytes, k, before)?);
     }
     Ok(())
 }

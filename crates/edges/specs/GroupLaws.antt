@@ -2,7 +2,7 @@
 use Rattle.std.specs.Prelude.{true, ◌≡◌, List, ℕ, eqb, get_or}
 use Rattle.std.proofs.Math.Nat.{le_refl}
 use native.Mathlib.Omega.{arith}
-use Rattle.edges.specs.Groups.{total, start_for, until_for, Grouped}
+use Rattle.edges.specs.Groups.{start_for, until_for, Grouped}
 
 pub ungrouped : (starts : List ℕ) → get_or starts 65 0 ≡ 0 → (ls : List ℕ) → Grouped starts ls
 unfolding start_for until_for

@@ -11,7 +11,9 @@ use Rattle.sheet.proofs.PassedLaws.{accepted_head}
 use Rattle.sheet.proofs.AcceptedLaws.{length-steps, accepted_question}
 use Rattle.sheet.specs.Reading.{steps_of}
 use Rattle.sheet.specs.Known.{EntriesFit}
-use Rattle.sheet.proofs.KnownLaws.{none_left, all_left, next-step, fit_earlier}
+use Rattle.sheet.proofs.KindLaws.{kind_two}
+use Rattle.sheet.specs.KindLaws.{last_stepped}
+use Rattle.sheet.proofs.KnownLaws.{none_left, next-step, fit_earlier}
 use Rattle.sheet.specs.declared.Steps.{Steps}
 use Rattle.sheet.specs.declared.kinds.Kind.{Kind}
 use Rattle.sheet.specs.declared.kinds.Kind.TheVariants as says
@@ -51,23 +53,11 @@ module _ (s : List ℕ) (w : Steps) (cs ls : List ℕ) where
 
 -- an and or an or: what is left below a way, by its kind's number
 pub two_kinds : (k : Kind) (n : ℕ) → kind_number k ≡ n → (k ≡ says.True → ⊥) → (k ≡ says.Not → ⊥) → kind_number k < 4 → (2 ≤ n) × (n < 4)
-two_kinds says.True n d f g h = absurd (f refl)
-two_kinds says.Not n d f g h = absurd (g refl)
-two_kinds says.And n d f g h = (omega arith, omega arith)
-two_kinds says.Or n d f g h = (omega arith, omega arith)
-two_kinds says.Way n d f g h = absurd (omega arith)
-two_kinds says.Same n d f g h = absurd (omega arith)
-two_kinds says.Differ n d f g h = absurd (omega arith)
+two_kinds k n d f g h = (omega (arith, kind_two k f g), omega arith)
 
 -- a differ: what is left from a way on
 pub differ_kind : (k : Kind) (n : ℕ) → kind_number k ≡ n → (k ≡ says.Way → ⊥) → (k ≡ says.Same → ⊥) → 4 ≤ kind_number k → 6 ≡ n
-differ_kind says.True n d f g h = absurd (omega arith)
-differ_kind says.Not n d f g h = absurd (omega arith)
-differ_kind says.And n d f g h = absurd (omega arith)
-differ_kind says.Or n d f g h = absurd (omega arith)
-differ_kind says.Way n d f g h = absurd (f refl)
-differ_kind says.Same n d f g h = absurd (g refl)
-differ_kind says.Differ n d f g h = d
+differ_kind k n d f g h = last_stepped k h f g ∙ d
 
 module _ (cs ls : List ℕ) (e : Entry) where
   pub entry_true : 0 ≡ kind_of e → record { chain = 0; length = 3 } ≡ entry_measure cs ls e

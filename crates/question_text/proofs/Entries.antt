@@ -1,6 +1,6 @@
 -- The text of an entry by its kind, and what is known of an entry that is to be written.
 use mathlib.Core.List.{List, [], ◌∷◌, ◌++◌}
-use mathlib.Core.Path.{◌≡◌, refl, ap}
+use mathlib.Core.Path.{◌≡◌, refl, sym, ap, ◌∙◌}
 use Prim.Native.Nat.{ℕ, ◌≤◌, ◌<◌}
 use native.Mathlib.Omega.{arith}
 use lib.ListN.{length, get_or}
@@ -12,7 +12,7 @@ use Rattle.sheet.specs.declared.kinds.Kind.TheVariants as says
 use Rattle.sheet.specs.Sheet.{count_of, entry_at, entry_start, sheet_refusal}
 use Rattle.sheet.proofs.AcceptedLaws.{well_formed_entry, accepted_standing, accepted_question}
 use Rattle.sheet.specs.Reading.{Readable, HasNumber}
-use Rattle.sheet.proofs.ReadingLaws.{readable}
+use Rattle.sheet.proofs.ReadingLaws.{readable, kind_read}
 use Rattle.sheet.proofs.KnownLaws.{below_at}
 use Rattle.text.specs.Text.{ascii}
 use Rattle.question_measure.specs.Text.{or_stay, steps_text, question_text, way_text}
@@ -98,6 +98,10 @@ entered o e = record { good = o.good; below = omega (arith, e.listed, o.entries)
 module _ (s : List ℕ) (k start : ℕ) (o : Entered s k start) where
   pub entered_readable : Readable s start
   entered_readable = readable s k start o.good o.below o.place
+
+  -- entry 0 is a true
+  pub entered_first : k ≡ 0 → 0 ≡ kind_of (entry_at s start)
+  entered_first z = sym (rw o.place ((accepted_standing s o.good k o.below).first z)) ∙ kind_read entered_readable
 
   pub entered_text : text_of s k ≡ question_text (spell (questions_of s) (entry_at s start))
   entered_text = rw o.place (ap question_text (accepted_question s o.good k o.below))

@@ -22,6 +22,13 @@ use Rattle.question_text.specs.Writing.{Started, label_text, junction_by, sign_b
 pub both_put : (room mid exit : List ℕ) (at a b to next : ℕ) → PutBytes room at (a ∷ []) mid to → PutBytes mid to (b ∷ []) exit next → PutBytes room at (a ∷ b ∷ []) exit next
 both_put room mid exit at a b to next p q = put_after p q
 
+module _ (room mid : List ℕ) (at a b to : ℕ) (p : PutBytes room at (a ∷ b ∷ []) mid to) where
+  pub third_fits : at + 3 ≤ length room → to + 1 ≤ length mid
+  third_fits h = rest_fits (a ∷ b ∷ 0 ∷ []) (a ∷ b ∷ []) (0 ∷ []) refl h p
+
+  pub third_put : (c : ℕ) (exit : List ℕ) (next : ℕ) → PutBytes mid to (c ∷ []) exit next → PutBytes room at (a ∷ b ∷ c ∷ []) exit next
+  third_put c exit next q = put_after p q
+
 -- ---- signs
 pub junction_or : (kind : Kind) → (kind ≡ says.And → ⊥) → 124 ≡ junction_by (kind_number kind)
 junction_or says.True f = refl

@@ -42,15 +42,11 @@ module _ (s : List ℕ) (k start : ℕ) (o : Entered s k start) (q : 0 ≡ kind_
   true_text : text_of s k ≡ ascii "<.>"
   true_text = entered_text s k start o ∙ text_true (questions_of s) (entry_at s start) (sym q)
 
-  pub true_first : at + length (text_of s k) ≤ length room → at + 2 ≤ length room
-  true_first h = omega (arith, ap length true_text)
+  pub true_fits : at + length (text_of s k) ≤ length room → at + 3 ≤ length room
+  true_fits h = omega (arith, ap length true_text)
 
-  module _ (mid : List ℕ) (to : ℕ) (p : PutBytes room at (60 ∷ 46 ∷ []) mid to) where
-    pub true_last : at + length (text_of s k) ≤ length room → to + 1 ≤ length mid
-    true_last h = rest_fits (text_of s k) (ascii "<.") (ascii ">") true_text h p
-
-    pub true_put : (exit : List ℕ) (next : ℕ) → PutBytes mid to (62 ∷ []) exit next → PutBytes room at (text_of s k) exit next
-    true_put exit next r = put_as (sym true_text) (put_after p r)
+  pub true_put : (exit : List ℕ) (next : ℕ) → PutBytes room at (ascii "<.>") exit next → PutBytes room at (text_of s k) exit next
+  true_put exit next p = put_as (sym true_text) p
 
 -- ---- put_not
 module _ (s : List ℕ) (k start : ℕ) (o : Entered s k start) (kd : kind_of (entry_at s start) ≡ 1) where

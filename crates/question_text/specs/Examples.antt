@@ -11,7 +11,7 @@ use Rattle.sheet.specs.Entry.{Step, Entry, truth, negation, conjunction, disjunc
 use Rattle.sheet.specs.Sheet.{entry_of, steps_at, entries_at, head_refusal, step_counts, too_large, required, numbers_refusal, body_refusal, kind_refusal, entry_refusal, entries_refusal, sheet_refusal}
 use Rattle.text.specs.Text.{ascii, numeral}
 use Rattle.question_measure.specs.Text.{sign_text, or_stay, steps_text, question_text, way_chain, chain}
-use Rattle.question_text.specs.Answer.{Answer, refused, text_of, question_answer, length_answer, with_room, write_answer, left_by, write_leaves}
+use Rattle.question_text.specs.Answer.{refused, text_of, question_answer, length_answer, with_room, write_answer, left_by, write_leaves}
 
 -- A step.
 abbrev go : ℕ → ℕ → Step

@@ -7,6 +7,7 @@ ghost use Rattle.fields.specs.Runs.{PutBytes};
 ghost use Rattle.sheet.specs.Entry.{kind_number, kind_of, step_in, numbers};
 ghost use Rattle.sheet.specs.Sheet.{count_of, entry_at, question_of, sheet_refusal};
 ghost use Rattle.sheet.specs.Reading.{Readable, HasNumber, HasStep, steps_of};
+ghost use Rattle.text.specs.Text.{ascii};
 ghost use Rattle.question_text.specs.Writing.{label_text, junction_by, sign_by, Started, EntryAt, WayOf, between, steps_text_of, way_text_of, second_text};
 ghost use Rattle.question_text.specs.Answer.{text_of, question_answer, length_answer, text_outcome, IsWrite, IsWriteCode};
 
@@ -107,6 +108,15 @@ fn put_sign(room: &mut [u8], at: usize, kind: Kind) -> usize
     }
 }
 
+// Writes a true at `at`, and gives the place after it.
+fn put_true(room: &mut [u8], at: usize) -> usize
+    requires { at + 3 ≤ length room.old }
+    ensures { PutBytes room.old at (ascii "<.>") room.new result }
+{
+    let next = put_both(room, at, b'<', b'.');
+    text::put_byte(room, next, b'>')
+}
+
 // ---- the writers of questions and ways call each other: the entry's number falls from a question to its parts and to the tests of its ways, and the
 // steps left fall in the loop over a way
 
@@ -116,15 +126,16 @@ fn put_question(source: &Source<'_>, k: usize, room: &mut [u8], at: usize) -> us
     requires { (k < length source.now.starts.now) × (at + length (text_of source.now.sheet.now k) ≤ length room.old) }
     ensures { PutBytes room.old at (text_of source.now.sheet.now k) room.new result }
 {
+    // Entry 0 is a true, and most steps and parts name it: it need not be read.
+    if k == 0 {
+        return put_true(room, at);
+    }
     let start = source.starts[k] as usize;
     let kind = sheet::kind(source.sheet, start);
     // By `<`, and a few tests on each side of it: a table of jumps, which a match of all the kinds becomes, costs more than the tests.
     if kind.number() < Kind::Way.number() {
         match kind {
-            Kind::True => {
-                let next = put_both(room, at, b'<', b'.');
-                text::put_byte(room, next, b'>')
-            }
+            Kind::True => put_true(room, at),
             Kind::Not => put_not(source, k, start, room, at),
             _ => put_two(source, k, start, kind, room, at),
         }

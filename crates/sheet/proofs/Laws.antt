@@ -1,6 +1,6 @@
 -- What each way out of the check shows of the definitions of `specs/`. The numbers that the code computed are variables here, with what is
 -- known of them, so that `search` finds them in a need's record.
-use mathlib.Core.Bool.{cond, true, false, not}
+use mathlib.Core.Bool.{Bool, cond, true, false, not}
 use mathlib.Core.List.{List, [], ◌∷◌}
 use mathlib.Core.Path.{◌≡◌, refl, sym, ap, ap₂, ◌∙◌}
 use denote.Enum.Bare.{sameb}
@@ -8,11 +8,11 @@ use Prim.Native.Nat.{ℕ, suc, ◌+◌, ◌-◌, ◌*◌, ◌≤◌, ◌<◌}
 use native.Mathlib.Nat.{pos_of_ne-zero, mul-add, mul-le-mul, mul-le-mul_left, mul-le-mul_right}
 use native.Mathlib.Omega.{arith}
 use borrow.Author.Tests.{lt-ltb, le-ltb, le-leb, lt-leb, eq-eqb, ne_eqb}
-use lib.Dec.{ltb}
+use lib.Dec.{eqb, ltb, leb}
 use lib.ListN.{length, get_or}
 use Rattle.sheet.specs.Entry.{kind_number, kind_of, first_way_lem, second_way, step_in, tests, numbers, most_steps}
 use Rattle.outcome.specs.Refusals.{first_of}
-use Rattle.sheet.specs.Sheet.{length_of, bound_of, count_of, number_at, step_at, steps_at, entry_at, next_at, entry_start, head_refusal, step_counts, numbers_refusal, body_refusal, kind_refusal, entry_refusal, entries_refusal, sheet_refusal, heading, sheet_answer, step_width, version_of, head_size, most_version, most_bound, most_entries, most_kind}
+use Rattle.sheet.specs.Sheet.{length_of, bound_of, count_of, number_at, step_at, steps_at, entry_at, next_at, entry_start, head_refusal, step_counts, numbers_refusal, body_refusal, kind_refusal, count_refusal, entry_refusal, entries_refusal, sheet_refusal, heading, sheet_answer, step_width, version_of, head_size, most_version, most_bound, most_entries, most_kind}
 use Rattle.fields.specs.Fields.{field}
 use Rattle.fields.specs.Label.{label_width}
 use Rattle.sheet.proofs.AcceptedLaws.{entry_start-next}
@@ -22,10 +22,9 @@ use Rattle.sheet.proofs.PassedLaws.{standing, headed, accepted_head}
 use Rattle.sheet.proofs.Bodies.{numbers-append, tests-append, steps-add, body_true, body_not, body_two, body_way, body_comparison, body_plain}
 use Rattle.sheet.specs.declared.Steps.{Steps}
 use Rattle.std.specs.Prelude.{Result, Ok, Err, IsErrAnd}
-use Rattle.outcome.specs.Refused.{number, refusal_in, judged}
-use Rattle.outcome.specs.RefusalLaws.{judged-ok, judged-err}
+use Rattle.outcome.specs.Refused.{number, refusal_in}
+use Rattle.outcome.specs.RefusalLaws.{first_none, first_some, judged-ok, judged-err}
 use Rattle.outcome.specs.declared.Refusal.{Refusal}
-use Rattle.sheet.specs.declared.Heading.{Heading}
 use Rattle.sheet.specs.declared.kinds.Kind.{Kind}
 use Rattle.sheet.specs.declared.kinds.Kind.TheVariants as says
 use Rattle.sheet.specs.contracts.kinds.Kind.{the_type}
@@ -262,29 +261,45 @@ module _ (v : ℕ) (s : List ℕ) (c n : ℕ) (kind : Kind) (at size r : ℕ) wh
       ∙ sym (body_comparison v s c n (kind_number kind) at size (kind_past kind (omega arith) g) (kind_number-most kind))
 
 -- ---- an entry
-pub entry_absent : (v : ℕ) (s : List ℕ) (c n at : ℕ) → length s ≤ at → 9 ≡ entry_refusal v s c n at
-unfolding entry_refusal
-entry_absent v s c n at h = simp (le-leb (length s) at h)
+pub count_absent : (s : List ℕ) (at : ℕ) → length s ≤ at → 9 ≡ count_refusal s at
+unfolding count_refusal
+count_absent s at h = simp (le-leb (length s) at h)
 
-module _ (v : ℕ) (s : List ℕ) (c n at : ℕ) (h : at < length s) (count : ℕ) (d : count ≡ get_or s at 0) where
-  pub entry_empty : count ≡ 0 → 9 ≡ entry_refusal v s c n at
-  unfolding entry_refusal
-  entry_empty z = simp (lt-leb (length s) at h, ← d, eq-eqb count 0 z)
+module _ (s : List ℕ) (at : ℕ) (h : at < length s) (count : ℕ) (d : count ≡ get_or s at 0) where
+  pub count_empty : count ≡ 0 → 9 ≡ count_refusal s at
+  unfolding count_refusal
+  count_empty z = simp (lt-leb (length s) at h, ← d, eq-eqb count 0 z)
 
   module _ (z : count ≡ 0 → ⊥) where
-    pub entry_past : length s - at ≤ count → 9 ≡ entry_refusal v s c n at
-    unfolding entry_refusal
-    entry_past l = simp (lt-leb (length s) at h, ← d, ne_eqb count 0 z, le-leb (length s) (at + count) (omega arith))
+    pub count_past : length s - at ≤ count → 9 ≡ count_refusal s at
+    unfolding count_refusal
+    count_past l = simp (lt-leb (length s) at h, ← d, ne_eqb count 0 z, le-leb (length s) (at + count) (omega arith))
 
-    module _ (l : count < length s - at) (r : ℕ) (dr : r ≡ kind_refusal n (get_or s (at + 1) 0)) where
-      pub entry_kind : (r ≡ 0 → ⊥) → r ≡ entry_refusal v s c n at
-      unfolding entry_refusal
-      entry_kind f = simp (lt-leb (length s) at h, ← d, ne_eqb count 0 z, lt-leb (length s) (at + count) (omega arith), ← dr, ne_eqb r 0 f)
+    pub count_good : count < length s - at → 0 ≡ count_refusal s at
+    unfolding count_refusal
+    count_good l = simp (lt-leb (length s) at h, ← d, ne_eqb count 0 z, lt-leb (length s) (at + count) (omega arith))
 
-      pub entry_body : r ≡ 0 → (kind : ℕ) → kind ≡ get_or s (at + 1) 0 → (t : ℕ) → t ≡ body_refusal v s c n kind (at + 2) (count - 1) → t ≡ entry_refusal v s c n at
-      unfolding entry_refusal
-      entry_body f kind k t dt =
-          simp (lt-leb (length s) at h, ← d, ne_eqb count 0 z, lt-leb (length s) (at + count) (omega arith), ← dr, eq-eqb r 0 f) (dt ∙ ap (λ kind. body_refusal v s c n kind (at + 2) (count - 1)) k)
+module _ (v : ℕ) (s : List ℕ) (c n at : ℕ) where
+  -- the count byte first, then the kind and the body
+  counted : entry_refusal v s c n at ≡ first_of (count_refusal s at) (first_of (kind_refusal n (get_or s (at + 1) 0)) (body_refusal v s c n (get_or s (at + 1) 0) (at + 2) (get_or s at 0 - 1)))
+  unfolding entry_refusal count_refusal
+  counted = go (leb (length s) at) (eqb (get_or s at 0) 0) (leb (length s) (at + get_or s at 0)) (first_of (kind_refusal n (get_or s (at + 1) 0)) (body_refusal v s c n (get_or s (at + 1) 0) (at + 2) (get_or s at 0 - 1)))
+    where
+      go : (a b e : Bool) (r : ℕ) → cond a 9 (cond b 9 (cond e 9 r)) ≡ first_of (cond a 9 (cond b 9 (cond e 9 0))) r
+      go true b e r = refl
+      go false true e r = refl
+      go false false true r = refl
+      go false false false r = refl
+
+  pub entry_uncounted : (r : ℕ) → r ≡ count_refusal s at → (r ≡ 0 → ⊥) → r ≡ entry_refusal v s c n at
+  entry_uncounted r d f = sym (counted ∙ rw (← d) (first_some r _ f))
+
+  module _ (e : 0 ≡ count_refusal s at) (r : ℕ) (dr : r ≡ kind_refusal n (get_or s (at + 1) 0)) where
+    pub entry_kind : (r ≡ 0 → ⊥) → r ≡ entry_refusal v s c n at
+    entry_kind f = sym (counted ∙ rw (← e, ← dr) (first_some r _ f))
+
+    pub entry_body : r ≡ 0 → (kind count : ℕ) → kind ≡ get_or s (at + 1) 0 → count ≡ get_or s at 0 → (t : ℕ) → t ≡ body_refusal v s c n kind (at + 2) (count - 1) → t ≡ entry_refusal v s c n at
+    entry_body z kind count k d t dt = dt ∙ sym (counted ∙ rw (← e, ← dr, ← k, ← d) (first_none r _ z))
 
 -- ---- the entries, one turn at a time
 pub entries_start : (v : ℕ) (s : List ℕ) (c q : ℕ) → entries_refusal v s c 0 head_size q ≡ entries_refusal v s c 0 8 (q - 0)
@@ -327,6 +342,9 @@ module _ (v : ℕ) (s : List ℕ) (c q at n : ℕ) (i : entries_refusal v s c 0 
 -- ---- what the callers ask of a stage that is passed, in the form in which they ask it
 pub head_long : (s : List ℕ) (h k : ℕ) → h ≡ head_refusal s → h ≡ 0 → k ≤ head_size → k ≤ length s
 head_long s h k d z l = let w = (headed s (sym d ∙ z)).eight in omega arith
+
+pub head_some : (s : List ℕ) (h q : ℕ) → h ≡ head_refusal s → h ≡ 0 → q ≡ count_of s → 0 < q
+head_some s h q d z e = let w = (headed s (sym d ∙ z)).some in omega arith
 
 pub sheet_long : (s : List ℕ) (k : ℕ) → sheet_refusal s ≡ 0 → k ≤ head_size → k ≤ length s
 sheet_long s k z l = let w = (accepted_head s z).eight in omega arith

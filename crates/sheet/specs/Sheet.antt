@@ -185,6 +185,13 @@ body_refusal v s c n kind at size =
 unfoldable pub kind_refusal : ℕ → ℕ → ℕ
 kind_refusal n kind = cond (ltb (most_kind) kind) 10 (cond (eqb n 0 && not (eqb kind 0)) 13 0)
 
+-- The refusal of the count byte at `at`. "9: the count byte is absent, 0, or reaches past the end." 0: none of these.
+unfoldable pub count_refusal : List ℕ → ℕ → ℕ
+count_refusal s at =
+    cond (leb (length s) at) 9
+    (cond (eqb (get_or s at 0) 0) 9
+    (cond (leb (length s) (at + get_or s at 0)) 9 0))
+
 -- The refusal of entry n, which starts at `at`. "9: the count byte is absent, 0, or reaches past the end"; then the kind's and the body's.
 unfoldable pub entry_refusal : ℕ → List ℕ → ℕ → ℕ → ℕ → ℕ
 entry_refusal v s c n at =

@@ -5,7 +5,7 @@ ghost use Rattle.std.specs.Prelude.{◌≡◌, ℕ, List, [], ◌∷◌, ◌+◌
 ghost use Rattle.outcome.specs.Outcome.{code};
 ghost use Rattle.outcome.specs.Refused.{refusal_in};
 ghost use Rattle.sheet.specs.Entry.{kind_number, kind_of, first_way_lem, second_way, step_in, tests, numbers};
-ghost use Rattle.sheet.specs.Sheet.{version_of, head_size, step_width, number_width, number_at, steps_at, entry_at, next_at, head_refusal, numbers_refusal, body_refusal, kind_refusal, entry_refusal, entries_refusal, sheet_refusal, sheet_answer, sheet_outcome};
+ghost use Rattle.sheet.specs.Sheet.{version_of, head_size, step_width, number_width, number_at, steps_at, entry_at, next_at, head_refusal, numbers_refusal, body_refusal, count_refusal, entry_refusal, entries_refusal, sheet_refusal, sheet_answer, sheet_outcome};
 ghost use Rattle.sheet.specs.Reading.{Readable, HasNumber, HasWay, HasStep, Reads, steps_of, first_place, second_place};
 
 use outcome::{Part, Refusal};
@@ -83,21 +83,6 @@ fn check_head(s: &[u8]) -> Result<(), Refusal>
         return Err(Refusal::SheetCounts);
     }
     Ok(())
-}
-
-// The kind of entry n, from its byte.
-fn check_kind(n: u16, byte: u8) -> Result<Kind, Refusal>
-    ensures refusal { refusal_in result ≡ kind_refusal n byte }
-    ensures kind { IfOk result (λ kind. kind_number kind ≡ byte) }
-{
-    let kind = Kind::try_from(byte)?;
-    if n != 0 {
-        return Ok(kind);
-    }
-    if kind != Kind::True {
-        return Err(Refusal::FirstEntry);
-    }
-    Ok(kind)
 }
 
 // Checks that the number at `at` names an entry before n.
@@ -257,9 +242,10 @@ fn check_body(
     check_comparison(s, v, c, n, at, size)
 }
 
-// Checks entry n, which starts at `at`.
-fn check_entry(s: &[u8], v: u8, c: u8, n: u16, at: usize) -> Result<(), Refusal>
-    ensures { refusal_in result ≡ entry_refusal v s.now c n at }
+// The count byte of the entry at `at`: so many bytes follow it, and one or more.
+fn check_count(s: &[u8], at: usize) -> Result<usize, Refusal>
+    ensures refusal { refusal_in result ≡ count_refusal s.now at }
+    ensures count { IfOk result (λ count. (count ≡ get_or s.now at 0) × (0 < count) × (at + count < length s.now)) }
 {
     if s.len() <= at {
         return Err(Refusal::EntryBytes);
@@ -271,18 +257,40 @@ fn check_entry(s: &[u8], v: u8, c: u8, n: u16, at: usize) -> Result<(), Refusal>
     if s.len() - at <= count {
         return Err(Refusal::EntryBytes);
     }
-    let kind = check_kind(n, s[at + 1])?;
+    Ok(count)
+}
+
+// Checks entry 0, which follows the header and is a true.
+fn check_first(s: &[u8]) -> Result<(), Refusal>
+    ensures { (v c : ℕ) → refusal_in result ≡ entry_refusal v s.now c 0 head_size }
+{
+    let count = check_count(s, HEAD)?;
+    let kind = Kind::try_from(s[HEAD + 1])?;
+    if kind != Kind::True {
+        return Err(Refusal::FirstEntry);
+    }
+    check_true(count - 1)
+}
+
+// Checks entry n, another than entry 0, which starts at `at`.
+fn check_entry(s: &[u8], v: u8, c: u8, n: u16, at: usize) -> Result<(), Refusal>
+    requires { 0 < n }
+    ensures { refusal_in result ≡ entry_refusal v s.now c n at }
+{
+    let count = check_count(s, at)?;
+    let kind = Kind::try_from(s[at + 1])?;
     check_body(s, v, c, n, kind, at + 2, count - 1)
 }
 
-// Checks q entries, of which the first follows the header.
+// Checks q entries, of which the first follows the header. (That is checked by itself, so that the loop over the others asks of none whether it is the first.)
 fn check_entries(s: &[u8], c: u8, q: u16) -> Result<(), Refusal>
-    requires { head_size ≤ length s.now }
+    requires { (head_size ≤ length s.now) × (0 < q) }
     ensures { refusal_in result ≡ entries_refusal (version_of s.now) s.now c 0 head_size q }
 {
+    check_first(s)?;
     let v = s[4];
-    let mut at = HEAD;
-    for n in 0..q {
+    let mut at = next_start(s, HEAD);
+    for n in 1..q {
         check_entry(s, v, c, n, at)?;
         at = next_start(s, at);
     }

@@ -2,8 +2,8 @@
 use Rattle.std.proofs.Common.{◌≡◌, ◌+◌, ◌-◌, ◌<◌, rules, arith, refl, sym}
 use Rattle.sheet.specs.Reading.{HasNumber}
 use Rattle.question_measure.proofs.Exits.{two_kinds}
-use Rattle.question_text.proofs.Entries.{comparison_kinds, entered, entered_readable, number_below}
-use Rattle.question_text.proofs.Questions.{between_text, between_put, question_at, true_first, true_last, true_put, not_number, not_first, not-part, not_put, two-first, two_second, two_opens, two-other, two_closes, two_put}
+use Rattle.question_text.proofs.Entries.{comparison_kinds, entered, entered_first, entered_readable, number_below}
+use Rattle.question_text.proofs.Questions.{between_text, between_put, question_at, true_fits, true_put, not_number, not_first, not-part, not_put, two-first, two_second, two_opens, two-other, two_closes, two_put}
 use Rattle.question_text.proofs.Ways.{first-way_of, second_way_of, exists_way, exists_opens, exists_part, exists_closes, exists_put, compared-first, compared_second, compared_opens, compared-part, compared-other, compared_put, second_sign, second_part, second_put, dot_fits, dot_put, steps_fit, steps_put, going_start, going_end, one_way, others-way, going_fits, going_next, test_earlier, step_label, step_test, step_put}
 use Rattle.question_text.proofs.+writers.Goals as goal
 
@@ -61,23 +61,29 @@ put_question-kind-kind-requires t c =
     let o = entered c.args.source.now.started e in
     entered_readable _ _ _ o
 
-pub put_question-put_both-next-requires : goal.put_question-put_both-next-requires
-put_question-put_both-next-requires t c =
+pub put_question-put_true-requires : goal.put_question-put_true-requires
+put_question-put_true-requires t c =
     let e = question_at _ _ _ _ c.args.source.now.started c.requires.0 refl in
     let o = entered c.args.source.now.started e in
-    true_first _ _ _ o c.in-True.ensures _ _ c.requires.1
+    true_fits _ _ _ o (entered_first _ _ _ o c.if-k-eq0.true) _ _ c.requires.1
 
-pub put_question-put_byte-requires : goal.put_question-put_byte-requires
-put_question-put_byte-requires t c =
+pub put_question-returns-then-k-eq0 : goal.put_question-returns-then-k-eq0
+put_question-returns-then-k-eq0 t c =
     let e = question_at _ _ _ _ c.args.source.now.started c.requires.0 refl in
     let o = entered c.args.source.now.started e in
-    true_last _ _ _ o c.in-True.ensures _ _ _ _ c.put_both-next.ensures c.requires.1
+    true_put _ _ _ o (entered_first _ _ _ o c.if-k-eq0.true) _ _ _ _ c.put_true.ensures
+
+pub put_question-put_true-requires-in-True : goal.put_question-put_true-requires-in-True
+put_question-put_true-requires-in-True t c =
+    let e = question_at _ _ _ _ c.args.source.now.started c.requires.0 refl in
+    let o = entered c.args.source.now.started e in
+    true_fits _ _ _ o c.in-True.ensures _ _ c.requires.1
 
 pub put_question-returns-in-True : goal.put_question-returns-in-True
 put_question-returns-in-True t c =
     let e = question_at _ _ _ _ c.args.source.now.started c.requires.0 refl in
     let o = entered c.args.source.now.started e in
-    true_put _ _ _ o c.in-True.ensures _ _ _ _ c.put_both-next.ensures _ _ c.put_byte.ensures
+    true_put _ _ _ o c.in-True.ensures _ _ _ _ c.put_true-in-True.ensures
 
 pub put_question-put_not-requires : goal.put_question-put_not-requires
 put_question-put_not-requires t c =
